@@ -1,0 +1,166 @@
+-- The laws of `floorDiv` and `nearest`: what they are, that nothing else is, and how they move with the number divided.
+use mathlib.Core.Path.{_≡_, refl, sym, ap, ap₂, _∙_}
+use Prim.Native.Nat.{ℕ, _+_, _*_, _≤_, _<_}
+use native.Mathlib.Nat.{mul-comm, div-add-mod, mod-lt, mul-pos, le-of-suc-le-suc, div-lt-iff-lt-mul}
+use native.Mathlib.Omega.{arith}
+use lib.IntN.{ℤ, pos, negsuc, natAbs, _+ℤ_, _*ℤ_}
+use lib.Signed.{_≤ℤ_, _<ℤ_, ≤ℤ-refl}
+use Rattle.exact.specs.Division.{floorDiv, nearest, nearestℕ}
+use Rattle.exact.proofs.Differences.{split, zs}
+use Rattle.exact.proofs.Integers.{≤-antisym, <-next, *-mono, within-step}
+
+-- ---- what floorDiv is
+pub floor-low : (z : ℤ) (d : ℕ) → 0 < d → (pos d *ℤ floorDiv z d) ≤ℤ z
+unfolding floorDiv
+floor-low (pos a) d h = let e = div-add-mod a d in simp zs (omega arith)
+floor-low (negsuc a) d h = let e = div-add-mod a d in let m = mod-lt a h in simp zs (omega arith)
+
+pub floor-high : (z : ℤ) (d : ℕ) → 0 < d → z <ℤ (pos d *ℤ floorDiv z d +ℤ pos d)
+unfolding floorDiv
+floor-high (pos a) d h = let e = div-add-mod a d in let m = mod-lt a h in simp zs (omega arith)
+floor-high (negsuc a) d h = let e = div-add-mod a d in simp zs (omega arith)
+
+-- ---- and the only such
+pub floor-is : (z q : ℤ) (d : ℕ) → 0 < d → (pos d *ℤ q) ≤ℤ z → z <ℤ (pos d *ℤ q +ℤ pos d) → q ≡ floorDiv z d
+floor-is z q d h l u =
+    ≤-antisym q (floorDiv z d) (within-step d q (floorDiv z d) z z l (≤ℤ-refl z) (floor-high z d h))
+    (within-step d (floorDiv z d) q z z (floor-low z d h) (≤ℤ-refl z) u)
+
+-- ---- how it moves with z: at most k further for k·d more, so in order, and exactly k further for exactly k·d more
+pub floor-near : (z w k : ℤ) (d : ℕ) → 0 < d → z ≤ℤ (w +ℤ pos d *ℤ k) → floorDiv z d ≤ℤ (floorDiv w d +ℤ k)
+floor-near z w k d h le =
+    within-step d (floorDiv z d) (floorDiv w d +ℤ k) z (w +ℤ pos d *ℤ k) (floor-low z d h) le
+    (more w k (floorDiv w d) (floor-high w d h))
+  where
+    more : (w k q : ℤ) → w <ℤ (pos d *ℤ q +ℤ pos d) → (w +ℤ pos d *ℤ k) <ℤ (pos d *ℤ (q +ℤ k) +ℤ pos d)
+    more w k q = rw (split w, split k, split q) (simp zs (omega arith))
+
+pub floor-mono : (z w : ℤ) (d : ℕ) → 0 < d → z ≤ℤ w → floorDiv z d ≤ℤ floorDiv w d
+floor-mono z w d h le =
+    within-step d (floorDiv z d) (floorDiv w d) z w (floor-low z d h) le (floor-high w d h)
+
+pub floor-add : (z k : ℤ) (d : ℕ) → 0 < d → floorDiv (z +ℤ pos d *ℤ k) d ≡ floorDiv z d +ℤ k
+floor-add z k d h =
+    sym (floor-is (z +ℤ pos d *ℤ k) (floorDiv z d +ℤ k) d h (low z k (floorDiv z d) (floor-low z d h)) (high z k (floorDiv z d) (floor-high z d h)))
+  where
+    low : (z k q : ℤ) → (pos d *ℤ q) ≤ℤ z → (pos d *ℤ (q +ℤ k)) ≤ℤ (z +ℤ pos d *ℤ k)
+    low z k q = rw (split z, split k, split q) (simp zs (omega arith))
+
+    high : (z k q : ℤ) → z <ℤ (pos d *ℤ q +ℤ pos d) → (z +ℤ pos d *ℤ k) <ℤ (pos d *ℤ (q +ℤ k) +ℤ pos d)
+    high z k q = rw (split z, split k, split q) (simp zs (omega arith))
+
+-- ---- how large it is
+pub floor-abs : (z : ℤ) (d k : ℕ) → 0 < d → natAbs z ≤ k * d → natAbs (floorDiv z d) ≤ k
+unfolding floorDiv
+floor-abs (pos a) d k h b = le-of-suc-le-suc (div-lt-iff-lt-mul h .1 (omega arith))
+floor-abs (negsuc a) d k h b = div-lt-iff-lt-mul h .1 b
+
+-- in two steps
+pub floor-floor : (z : ℤ) (a b : ℕ) → 0 < a → 0 < b → floorDiv (floorDiv z a) b ≡ floorDiv z (a * b)
+floor-floor z a b ha hb =
+    let p = floorDiv z a in
+    let q = floorDiv p b in
+    floor-is z q (a * b) (mul-pos ha hb)
+    (low z p q (floor-low z a ha) (*-mono a (pos b *ℤ q) p (floor-low p b hb)))
+    (high z p q (floor-high z a ha) (*-mono a (p +ℤ pos 1) (pos b *ℤ q +ℤ pos b) (<-next p (pos b *ℤ q +ℤ pos b) (floor-high p b hb))))
+  where
+    low : (z p q : ℤ) → (pos a *ℤ p) ≤ℤ z → (pos a *ℤ (pos b *ℤ q)) ≤ℤ (pos a *ℤ p) → (pos (a * b) *ℤ q) ≤ℤ z
+    low z p q = rw (split z, split p, split q) (simp zs (omega arith))
+
+    high : (z p q : ℤ) → z <ℤ (pos a *ℤ p +ℤ pos a) → (pos a *ℤ (p +ℤ pos 1)) ≤ℤ (pos a *ℤ (pos b *ℤ q +ℤ pos b)) → z <ℤ (pos (a * b) *ℤ q +ℤ pos (a * b))
+    high z p q = rw (split z, split p, split q) (simp zs (omega arith))
+
+-- ---- to the nearest: at most half of d away
+two-pos : (d : ℕ) → 0 < d → 0 < 2 * d
+two-pos d h = omega arith
+
+pub nearest-low : (z : ℤ) (d : ℕ) → 0 < d → (pos (2 * d) *ℤ nearest z d) ≤ℤ (pos 2 *ℤ z +ℤ pos d)
+unfolding nearest
+nearest-low z d h = floor-low (pos 2 *ℤ z +ℤ pos d) (2 * d) (two-pos d h)
+
+pub nearest-high : (z : ℤ) (d : ℕ) → 0 < d → (pos 2 *ℤ z) <ℤ (pos (2 * d) *ℤ nearest z d +ℤ pos d)
+unfolding nearest
+nearest-high z d h = go z (nearest z d) (floor-high (pos 2 *ℤ z +ℤ pos d) (2 * d) (two-pos d h))
+  where
+    go : (z q : ℤ) → (pos 2 *ℤ z +ℤ pos d) <ℤ (pos (2 * d) *ℤ q +ℤ pos (2 * d)) → (pos 2 *ℤ z) <ℤ (pos (2 * d) *ℤ q +ℤ pos d)
+    go z q = rw (split z, split q) (simp zs (omega arith))
+
+pub nearest-is : (z q : ℤ) (d : ℕ) → 0 < d → (pos (2 * d) *ℤ q) ≤ℤ (pos 2 *ℤ z +ℤ pos d) → (pos 2 *ℤ z) <ℤ (pos (2 * d) *ℤ q +ℤ pos d) → q ≡ nearest z d
+unfolding nearest
+nearest-is z q d h l u = floor-is (pos 2 *ℤ z +ℤ pos d) q (2 * d) (two-pos d h) l (go z q u)
+  where
+    go : (z q : ℤ) → (pos 2 *ℤ z) <ℤ (pos (2 * d) *ℤ q +ℤ pos d) → (pos 2 *ℤ z +ℤ pos d) <ℤ (pos (2 * d) *ℤ q +ℤ pos (2 * d))
+    go z q = rw (split z, split q) (simp zs (omega arith))
+
+-- ---- distances: z and w are at most k apart
+abbrev pub Within : ℤ → ℤ → ℕ → Type 0
+Within z w k = (z ≤ℤ (w +ℤ pos k)) × (w ≤ℤ (z +ℤ pos k))
+
+-- the nearest multiple of d is at most half of d away
+pub nearest-error : (z : ℤ) (d : ℕ) → 0 < d → Within (pos (2 * d) *ℤ nearest z d) (pos 2 *ℤ z) d
+nearest-error z d h = go (pos 2 *ℤ z) (pos (2 * d) *ℤ nearest z d) (nearest-low z d h) (nearest-high z d h)
+  where
+    go : (z w : ℤ) → w ≤ℤ (z +ℤ pos d) → z <ℤ (w +ℤ pos d) → Within w z d
+    go z w = rw (split z, split w) (simp zs (omega arith))
+
+-- a whole multiple of d more
+pub nearest-add : (z k : ℤ) (d : ℕ) → 0 < d → nearest (z +ℤ pos d *ℤ k) d ≡ nearest z d +ℤ k
+nearest-add z k d h =
+    sym (nearest-is (z +ℤ pos d *ℤ k) (nearest z d +ℤ k) d h (low z k (nearest z d) (nearest-low z d h)) (high z k (nearest z d) (nearest-high z d h)))
+  where
+    low : (z k q : ℤ) → (pos (2 * d) *ℤ q) ≤ℤ (pos 2 *ℤ z +ℤ pos d) → (pos (2 * d) *ℤ (q +ℤ k)) ≤ℤ (pos 2 *ℤ (z +ℤ pos d *ℤ k) +ℤ pos d)
+    low z k q = rw (split z, split k, split q) (simp zs (omega arith))
+
+    high : (z k q : ℤ) → (pos 2 *ℤ z) <ℤ (pos (2 * d) *ℤ q +ℤ pos d) → (pos 2 *ℤ (z +ℤ pos d *ℤ k)) <ℤ (pos (2 * d) *ℤ (q +ℤ k) +ℤ pos d)
+    high z k q = rw (split z, split k, split q) (simp zs (omega arith))
+
+-- numbers at most k·d apart are rounded to numbers at most k apart
+pub nearest-within : (z w : ℤ) (d k : ℕ) → 0 < d → Within z w (d * k) → Within (nearest z d) (nearest w d) k
+unfolding nearest
+nearest-within z w d k h p = (
+  floor-near (pos 2 *ℤ z +ℤ pos d) (pos 2 *ℤ w +ℤ pos d) (pos k) (2 * d) (two-pos d h) (go z w (p .0)),
+  floor-near (pos 2 *ℤ w +ℤ pos d) (pos 2 *ℤ z +ℤ pos d) (pos k) (2 * d) (two-pos d h) (go w z (p .1)),
+)
+  where
+    go : (z w : ℤ) → z ≤ℤ (w +ℤ pos (d * k)) → (pos 2 *ℤ z +ℤ pos d) ≤ℤ (pos 2 *ℤ w +ℤ pos d +ℤ pos (2 * d) *ℤ pos k)
+    go z w = rw (split z, split w) (simp zs (omega arith))
+
+pub within-trans : (x y z : ℤ) (j k : ℕ) → Within x y j → Within y z k → Within x z (j + k)
+within-trans x y z j k = rw (split x, split y, split z) (simp zs (omega arith))
+
+pub within-add : (x y z w : ℤ) (j k : ℕ) → Within x y j → Within z w k → Within (x +ℤ z) (y +ℤ w) (j + k)
+within-add x y z w j k = rw (split x, split y, split z, split w) (simp zs (omega arith))
+
+-- ---- the same fraction with another denominator
+pub floor-scale : (z : ℤ) (d e : ℕ) → 0 < d → 0 < e → floorDiv (pos e *ℤ z) (e * d) ≡ floorDiv z d
+floor-scale z d e hd he =
+    let q = floorDiv z d in
+    sym (floor-is (pos e *ℤ z) q (e * d) (mul-pos he hd) (low q z (*-mono e (pos d *ℤ q) z (floor-low z d hd)))
+    (high q z (*-mono e (z +ℤ pos 1) (pos d *ℤ q +ℤ pos d) (<-next z (pos d *ℤ q +ℤ pos d) (floor-high z d hd)))))
+  where
+    low : (q z : ℤ) → (pos e *ℤ (pos d *ℤ q)) ≤ℤ (pos e *ℤ z) → (pos (e * d) *ℤ q) ≤ℤ (pos e *ℤ z)
+    low q z = rw (split q, split z) (simp zs (omega arith))
+
+    high : (q z : ℤ) → (pos e *ℤ (z +ℤ pos 1)) ≤ℤ (pos e *ℤ (pos d *ℤ q +ℤ pos d)) → (pos e *ℤ z) <ℤ (pos (e * d) *ℤ q +ℤ pos (e * d))
+    high q z = rw (split q, split z) (simp zs (omega arith))
+
+pub nearest-scale : (z : ℤ) (d e : ℕ) → 0 < d → 0 < e → nearest (pos e *ℤ z) (e * d) ≡ nearest z d
+unfolding nearest
+nearest-scale z d e hd he = ap₂ floorDiv (over z) under ∙ floor-scale (pos 2 *ℤ z +ℤ pos d) (2 * d) e (two-pos d hd) he
+  where
+    over : (z : ℤ) → pos 2 *ℤ (pos e *ℤ z) +ℤ pos (e * d) ≡ pos e *ℤ (pos 2 *ℤ z +ℤ pos d)
+    over z = rw (split z) (simp zs (omega arith))
+
+    under : 2 * (e * d) ≡ e * (2 * d)
+    under = omega arith
+
+-- THE LIPSCHITZ LAW: two exact numbers z / d and w / e at most k apart, k whole, have nearest numbers at most k apart
+pub nearest-near : (z w : ℤ) (d e k : ℕ) → 0 < d → 0 < e → Within (pos e *ℤ z) (pos d *ℤ w) (d * e * k) → Within (nearest z d) (nearest w e) k
+nearest-near z w d e k hd he p =
+    rw (← nearest-scale z d e hd he, ← nearest-scale w e d he hd, mul-comm e d)
+    (nearest-within (pos e *ℤ z) (pos d *ℤ w) (d * e) k (mul-pos hd he) p)
+
+-- ---- a quotient that is not negative
+pub nearest-pos : (a d : ℕ) → nearest (pos a) d ≡ pos (nearestℕ a d)
+unfolding nearest nearestℕ floorDiv
+nearest-pos a d = refl

@@ -1,0 +1,57 @@
+-- What an `i64` holds. A signed local holds bits, so a need has `toZ w64 (ofZ w64 z)` for each z that is read, which is z where z fits.
+use mathlib.Core.Path.{_≡_, sym, subst}
+use mathlib.Core.Bool.{Bool, true, false, not}
+use Prim.Native.Nat.{ℕ, _^_, _≤_, _<_}
+use native.Mathlib.Nat.{lt-of-le-of-lt, lt-of-lt-of-le}
+use native.Mathlib.Omega.{arith}
+use borrow.Author.Tests.{ltb-true, leb-true}
+use lib.Dec.{T, leb, ltb}
+use lib.IntN.{ℤ, pos, negsuc, natAbs}
+use lib.Signed.{mag, ltZ, leZ, nonNeg, _≤ℤ_, _<ℤ_, ltZ-yes, ltZ-no, leZ-yes, yes-nonNeg}
+use mir.Facts.{toZ-ofZ}
+use mir.Syntax.{w64}
+use mir.Val.{Fits, SFits, ofZ, toZ}
+use Rattle.exact.proofs.Differences.{split, zs}
+
+-- ---- what the machine reads back
+-- At a need itself `simp (toZ-ofZ, f, g, ..) t` puts each z, with a proof f that it fits, at the very number, no `(i : ℕ) → ..`, and t proves what is left.
+-- For a lemma over plain numbers, away from `c`: `held z` is a need's `toZ w64 (ofZ w64 z)` under the line `unfolding held`, and `simp (held-is, f, g, ..)` puts z.
+unfoldable pub held : ℤ → ℤ
+held z = toZ w64 (ofZ w64 z)
+
+pub held-is : (z : ℤ) → SFits w64 z → held z ≡ z
+unfolding held
+held-is z f = toZ-ofZ f
+
+-- ---- what fits
+-- a parameter x: `c .fits .x`; the result of a call of f: `ok-fits (c .f .result) (c .f .ok)`
+pub ok-fits : (z : ℤ) → mag z < 2 ^ 63 → SFits w64 z
+ok-fits z p = record { sfits = p }
+
+pub abs-fits : (z : ℤ) → natAbs z < 2 ^ 63 → SFits w64 z
+abs-fits z = rw (split z) (simp zs (omega arith))
+
+-- what a literal bounds: `fits-lt (2 ^ 45) z h refl`
+pub fits-lt : (n : ℕ) (z : ℤ) → natAbs z < n → leb n (2 ^ 63) ≡ true → SFits w64 z
+fits-lt n z h e = abs-fits z (lt-of-lt-of-le h (leb-true n (2 ^ 63) e))
+
+pub fits-le : (n : ℕ) (z : ℤ) → natAbs z ≤ n → ltb n (2 ^ 63) ≡ true → SFits w64 z
+fits-le n z h e = abs-fits z (lt-of-le-of-lt h (ltb-true n (2 ^ 63) e))
+
+-- ---- a test of two signed numbers, as a branch leaves it: `is-lt (c .if1 .taken)`, `is-ge (c .if1 .left)`
+pub is-lt : {a b : ℤ} → ltZ a b ≡ true → a <ℤ b
+is-lt e = ltZ-yes (subst T (sym e) tt)
+
+pub is-ge : {a b : ℤ} → ltZ a b ≡ false → b ≤ℤ a
+is-ge e = ltZ-no (subst (λ (x : Bool). T (not x)) (sym e) tt)
+
+pub is-le : {a b : ℤ} → leZ a b ≡ true → a ≤ℤ b
+is-le e = leZ-yes (subst T (sym e) tt)
+
+-- ---- casts: `x as usize` of an x that is not negative, and `i as i64`
+pub to-nat : (z : ℤ) → pos 0 ≤ℤ z → SFits w64 z → T (nonNeg z) × Fits w64 (natAbs z)
+to-nat z h f = (yes-nonNeg h, record { fits = go z f })
+  where
+    go : (z : ℤ) → SFits w64 z → natAbs z < 2 ^ 64
+    go (pos n) f = let l = f .sfits in omega arith
+    go (negsuc n) f = let l = f .sfits in omega arith

@@ -1,0 +1,14 @@
+-- The largest number that passes a test, and the integer square root by it.
+-- Assumes nothing.
+use Prim.Native.Nat.{ℕ, zero, suc, _*_}
+use mathlib.Core.Bool.{Bool, cond}
+use lib.Dec.{leb}
+
+-- the largest number below n that passes, and 0 where none does
+unfoldable pub largest : (ℕ → Bool) → ℕ → ℕ
+largest p zero = 0
+largest p (suc n) = cond (p n) n (largest p n)
+
+-- document 01, "The horizon": "the largest whole number whose square is at most x". None beyond x has.
+unfoldable pub root : ℕ → ℕ
+root x = largest (λ h. leb (h * h) x) (suc x)

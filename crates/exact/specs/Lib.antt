@@ -1,0 +1,4 @@
+pub mod Division
+pub mod Angle
+pub mod Century
+pub mod Largest
