@@ -1,16 +1,17 @@
 -- What an `i64` holds. A signed local holds bits, so a need has `toZ w64 (ofZ w64 z)` for each z that is read, which is z where z fits.
-use mathlib.Core.Path.{_≡_, sym, subst}
-use mathlib.Core.Bool.{Bool, true, false, not}
+use mathlib.Core.Path.{_≡_, refl, sym, subst}
+use mathlib.Core.Bool.{Bool, true, false, not, _&&_, true≢false}
 use Prim.Native.Nat.{ℕ, _^_, _≤_, _<_}
 use native.Mathlib.Nat.{lt-of-le-of-lt, lt-of-lt-of-le}
 use native.Mathlib.Omega.{arith}
 use borrow.Author.Tests.{ltb-true, leb-true}
-use lib.Dec.{T, leb, ltb}
+use lib.Dec.{T, leb, ltb, leb→le}
 use lib.IntN.{ℤ, pos, negsuc, natAbs}
 use lib.Signed.{mag, ltZ, leZ, nonNeg, _≤ℤ_, _<ℤ_, ltZ-yes, ltZ-no, leZ-yes, yes-nonNeg}
 use mir.Facts.{toZ-ofZ}
 use mir.Syntax.{w64}
 use mir.Val.{Fits, SFits, ofZ, toZ}
+use Rattle.exact.specs.Range.{between}
 use Rattle.exact.proofs.Differences.{split, zs}
 
 -- ---- what the machine reads back
@@ -45,6 +46,10 @@ is-lt e = ltZ-yes (subst T (sym e) tt)
 pub is-ge : {a b : ℤ} → ltZ a b ≡ false → b ≤ℤ a
 is-ge e = ltZ-no (subst (λ (x : Bool). T (not x)) (sym e) tt)
 
+and-true : (a b : Bool) → (a && b) ≡ true → (a ≡ true) × (b ≡ true)
+and-true true b e = (refl, e)
+and-true false b e = (e, absurd (true≢false (sym e)))
+
 pub is-le : {a b : ℤ} → leZ a b ≡ true → a ≤ℤ b
 is-le e = leZ-yes (subst T (sym e) tt)
 
@@ -55,3 +60,17 @@ to-nat z h f = (yes-nonNeg h, record { fits = go z f })
     go : (z : ℤ) → SFits w64 z → natAbs z < 2 ^ 64
     go (pos n) f = let l = f .sfits in omega arith
     go (negsuc n) f = let l = f .sfits in omega arith
+
+-- ---- a range that was tested
+pub between-low : (low z high : ℤ) → between low z high ≡ true → low ≤ℤ z
+unfolding between
+between-low low z high e = is-le (and-true (leZ low z) (leZ z high) e .0)
+
+pub between-high : (low z high : ℤ) → between low z high ≡ true → z ≤ℤ high
+unfolding between
+between-high low z high e = is-le (and-true (leZ low z) (leZ z high) e .1)
+
+-- where it starts at a natural number, so is what lies in it
+pub between-nat : (l h : ℕ) (z : ℤ) → between (pos l) z (pos h) ≡ true → (z ≡ pos (natAbs z)) × (l ≤ natAbs z) × (natAbs z ≤ h)
+between-nat l h (pos n) e = (refl, leb→le l n (between-low (pos l) (pos n) (pos h) e .le), leb→le n h (between-high (pos l) (pos n) (pos h) e .le))
+between-nat l h (negsuc n) e = absurd (between-low (pos l) (negsuc n) (pos h) e .le)

@@ -2,3 +2,4 @@ pub mod Division
 pub mod Angle
 pub mod Century
 pub mod Largest
+pub mod Range

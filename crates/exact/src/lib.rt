@@ -8,12 +8,31 @@ ghost use Rattle.exact.specs.Division.{floorDiv, nearest};
 ghost use Rattle.exact.specs.Angle.{turn, reduced};
 ghost use Rattle.exact.specs.Century.{century, Divided};
 ghost use Rattle.exact.specs.Largest.{root};
+ghost use Rattle.exact.specs.Range.{between};
 
 // A turn, in units of 0.0001 second of arc.
 pub const TURN: i64 = 12_960_000_000;
 
 // A Julian century of 36,525 days, in milliseconds: document 01's C.
 pub const CENTURY: i64 = 3_155_760_000_000;
+
+// Whether x lies between two numbers, both included.
+pub fn between(low: i64, x: i64, high: i64) -> bool
+    ensures { λ r. ⌜ r ≡ between low x high ⌝ }
+{
+    low <= x && x <= high
+}
+
+// A number without its sign; also of the least i64, whose negative is no i64.
+pub fn magnitude(x: i64) -> u64
+    ensures { λ r. ⌜ r ≡ natAbs x ⌝ }
+{
+    if x < 0 {
+        (-(x + 1)) as u64 + 1
+    } else {
+        x as u64
+    }
+}
 
 // a / d, rounded toward minus infinity.
 pub fn floor_div(a: i64, d: i64) -> i64

@@ -1,0 +1,101 @@
+-- Document 01, "The card" (fields 4 to 7), "Time" and refusals 2, 3 and 4: the instant that seven numbers name.
+-- Hours, minutes and the rest are looked at only with a date, and only where they are not negative: `natAbs` is then the number itself.
+-- Assumes nothing.
+use Prim.Native.Nat.{ℕ, _+_, _*_, _≤_}
+use mathlib.Core.Bool.{Bool, cond, _&&_, _||_}
+use lib.Dec.{eqb}
+use lib.IntN.{ℤ, pos, negsuc, natAbs, _+ℤ_, _-ℤ_, _*ℤ_}
+use lib.Signed.{_≤ℤ_}
+use Rattle.exact.specs.Century.{century}
+use Rattle.exact.specs.Division.{floorDiv}
+use Rattle.exact.specs.Range.{between}
+use Rattle.calendar.specs.Date.{isDate, dayCount}
+use Rattle.calendar.specs.declared.CivilTime.{CivilTime}
+use Rattle.calendar.specs.declared.Clock.{Clock}
+use Rattle.calendar.specs.declared.Clock.the-variants.{Millisecond, NotATime}
+use Rattle.calendar.specs.declared.Instant.{Instant}
+use Rattle.calendar.specs.declared.Instant.the-variants.{Accepted, NoDate, NoTime, NoDut1}
+
+-- 30 June or 31 December, on which the last minute may have a leap second
+unfoldable pub leapSecondDay : ℕ → ℕ → Bool
+leapSecondDay month day = (eqb month 6 && eqb day 30) || (eqb month 12 && eqb day 31)
+
+-- the last millisecond of a minute: 59,999, and 60,999 at 23:59 on such a day
+unfoldable pub lastMillisecond : ℕ → ℕ → ℕ → ℕ → ℕ
+lastMillisecond month day hour minute = cond (eqb hour 23 && (eqb minute 59 && leapSecondDay month day)) 60999 59999
+
+-- hour, minute and millisecond of the minute are allowed on a date
+unfoldable pub isTime : ℤ → ℤ → ℤ → ℤ → ℤ → Bool
+isTime month day hour minute millisecond =
+    between (pos 0) hour (pos 23)
+    && (between (pos 0) minute (pos 59)
+    && between (pos 0) millisecond (pos (lastMillisecond (natAbs month) (natAbs day) (natAbs hour) (natAbs minute))))
+
+-- the millisecond of the day; in a leap second it runs on past 86,400,000
+unfoldable pub dayMillisecond : ℤ → ℤ → ℤ → ℕ
+dayMillisecond hour minute millisecond = (natAbs hour * 60 + natAbs minute) * 60000 + natAbs millisecond
+
+unfoldable pub isDut1 : ℤ → Bool
+isDut1 dut1 = between (negsuc 899) dut1 (pos 900)
+
+-- 01's N, ms since 1900 January 0.5, of D, the millisecond of the day and DUT1
+unfoldable pub sinceNoon : ℕ → ℕ → ℤ → ℤ
+sinceNoon day ms dut1 = pos (86400000 * day) -ℤ pos 43200000 +ℤ pos ms +ℤ dut1
+
+unfoldable pub instant : CivilTime → ℤ
+instant t =
+    sinceNoon (dayCount (natAbs (t .year)) (natAbs (t .month)) (natAbs (t .day))) (dayMillisecond (t .hour) (t .minute) (t .millisecond)) (t .dut1)
+
+-- 01's q, millionths of a century since then
+unfoldable pub millionths : ℤ → ℤ
+millionths n = floorDiv (pos 1000000 *ℤ n) century
+
+-- what the seven numbers are answered with: the lowest refusal that applies, or 0 with N and q
+pub record Answer : Type 0 where
+  pub refusal : ℕ
+  pub n : ℤ
+  pub q : ℤ
+
+abbrev pub refused : ℕ → Answer
+refused k = record { refusal = k; n = pos 0; q = pos 0 }
+
+abbrev pub accepted : ℤ → ℤ → Answer
+accepted n q = record { refusal = 0; n = n; q = q }
+
+unfoldable pub answer : CivilTime → Answer
+answer t =
+    cond (isDate (t .year) (t .month) (t .day))
+    (cond (isTime (t .month) (t .day) (t .hour) (t .minute) (t .millisecond))
+    (cond (isDut1 (t .dut1)) (accepted (instant t) (millionths (instant t))) (refused 4))
+    (refused 3))
+    (refused 2)
+
+-- 01's number and values of each case of the code's answer
+abbrev pub meaning : Instant → Answer
+meaning (Accepted n q) = accepted n q
+meaning NoDate = refused 2
+meaning NoTime = refused 3
+meaning NoDut1 = refused 4
+
+-- the millisecond of the day as the code answers it
+unfoldable pub clockOf : ℤ → ℤ → ℤ → ℤ → ℤ → Clock
+clockOf month day hour minute millisecond =
+    cond (isTime month day hour minute millisecond) (Millisecond (dayMillisecond hour minute millisecond)) NotATime
+
+-- the last millisecond of a day, with a leap second
+abbrev pub ClockInRange : Clock → Type 0
+ClockInRange (Millisecond ms) = ms ≤ 86400999
+ClockInRange NotATime = Unit {0}
+
+-- the range of N and of q where an instant is accepted: from 1976-01-01 with DUT1 −900 to the leap second of 2049-12-31 with DUT1 900
+abbrev pub InstantRange : ℤ → Type 0
+InstantRange n = (pos 2398334399100 ≤ℤ n) × (n ≤ℤ pos 4733640001899)
+
+abbrev pub MillionthsRange : ℤ → Type 0
+MillionthsRange q = (pos 759986 ≤ℤ q) × (q ≤ℤ pos 1500000)
+
+abbrev pub InRange : Instant → Type 0
+InRange (Accepted n q) = InstantRange n × MillionthsRange q
+InRange NoDate = Unit {0}
+InRange NoTime = Unit {0}
+InRange NoDut1 = Unit {0}

@@ -1,0 +1,12 @@
+-- What the result of a choice says of the test: where it is not what the other way gives, the test went this way.
+-- Assumes nothing.
+use mathlib.Core.Path.{_≡_, refl}
+use mathlib.Core.Bool.{Bool, true, false, cond}
+
+pub was-false : {X : Type 0} (b : Bool) (x y z : X) → (z ≡ x → ⊥) → z ≡ cond b x y → (b ≡ false) × (z ≡ y)
+was-false true x y z n e = absurd (n e)
+was-false false x y z n e = (refl, e)
+
+pub was-true : {X : Type 0} (b : Bool) (x y z : X) → (z ≡ y → ⊥) → z ≡ cond b x y → (b ≡ true) × (z ≡ x)
+was-true true x y z n e = (refl, e)
+was-true false x y z n e = absurd (n e)

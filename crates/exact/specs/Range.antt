@@ -1,0 +1,8 @@
+-- Document 01, "The card": a number accepted between two others, both included.
+-- Assumes nothing.
+use mathlib.Core.Bool.{Bool, _&&_}
+use lib.IntN.{ℤ}
+use lib.Signed.{leZ}
+
+unfoldable pub between : ℤ → ℤ → ℤ → Bool
+between low z high = leZ low z && leZ z high
