@@ -1,0 +1,2 @@
+pub mod Term
+pub mod Sum

@@ -1,0 +1,142 @@
+-- `sine::angle` meets its contract, branch by branch.
+use mathlib.Core.Path.{_≡_, sym, ap, _∙_}
+use Prim.Native.Nat.{ℕ, _+_, _*_}
+use native.Mathlib.Omega.{arith}
+use lib.IntN.{ℤ, natAbs}
+use mir.Syntax.{w64}
+use mir.Val.{SFits}
+use mir.Facts.{toZ-ofZ}
+use Rattle.exact.specs.Angle.{Q}
+use Rattle.sine.specs.Angle.{first}
+use Rattle.sine.proofs.Signs.{left-up, left-down, right-down, right-up, straight-up, nowhere}
+use borrow.Author.Needs.{needs}
+use Rattle.sine.proofs.angle.Statement.{statement}
+use Rattle.sine.proofs.angle.Tie as tie
+
+magnitude-requires : tie.Need-magnitude-requires
+magnitude-requires c κs = search needs
+
+magnitude-requires-2 : tie.Need-magnitude-requires-2
+magnitude-requires-2 c κs = search needs
+
+search-requires : tie.Need-search-requires
+search-requires c κs = search needs
+
+add-result : tie.Need-add-result
+add-result c = search needs
+
+mul-result : tie.Need-mul-result
+mul-result c = search needs
+
+search-requires-2 : tie.Need-search-requires-2
+search-requires-2 c κs = search needs
+
+add-result-2 : tie.Need-add-result-2
+add-result-2 c = search needs
+
+mul-result-2 : tie.Need-mul-result-2
+mul-result-2 c = search needs
+
+search-requires-3 : tie.Need-search-requires-3
+search-requires-3 c κs = search needs
+
+add-result-3 : tie.Need-add-result-3
+add-result-3 c = search needs
+
+search-requires-4 : tie.Need-search-requires-4
+search-requires-4 c κs = search needs
+
+search-requires-5 : tie.Need-search-requires-5
+search-requires-5 c κs = search needs
+
+add-result-4 : tie.Need-add-result-4
+add-result-4 c = search needs
+
+-- the components, that they fit, and that p and q are their magnitudes
+module _ (c : tie.After-magnitude2) where
+  abbrev x : ℤ
+  x = c .before .before .args .x
+
+  abbrev y : ℤ
+  y = c .before .before .args .y
+
+  x-fits : SFits w64 x
+  x-fits = c .before .before .fits .x
+
+  y-fits : SFits w64 y
+  y-fits = c .before .before .fits .y
+
+  p-is : c .before .magnitude .result ≡ natAbs x
+  p-is = c .before .magnitude .ensures .0 ∙ ap natAbs (toZ-ofZ x-fits)
+
+  q-is : c .magnitude2 .result ≡ natAbs y
+  q-is = c .magnitude2 .ensures .0 ∙ ap natAbs (toZ-ofZ y-fits)
+
+returns : tie.Need-returns
+returns c =
+    let m = c .before .before .before in
+    let left = simp (toZ-ofZ, x-fits m) at (c .before .before .if1 .taken) in
+    let up = simp (toZ-ofZ, y-fits m) at (c .before .if2 .taken) in
+    (ap (λ (n : ℕ). Q + n) (c .search .ensures .0 ∙ (λ i. first (q-is m i) (p-is m i))) ∙ sym (left-up (x m) (y m) left up), omega arith)
+
+returns-2 : tie.Need-returns-2
+returns-2 c =
+    let m = c .before .before .before in
+    let left = simp (toZ-ofZ, x-fits m) at (c .before .before .if1 .taken) in
+    let down = simp (toZ-ofZ, y-fits m) at (c .before .if2 .left) in
+    (ap (λ (n : ℕ). 2 * Q + n) (c .search2 .ensures .0 ∙ (λ i. first (p-is m i) (q-is m i))) ∙ sym (left-down (x m) (y m) left down), omega arith)
+
+returns-3 : tie.Need-returns-3
+returns-3 c =
+    let m = c .before .before .before in
+    let right = simp (toZ-ofZ, x-fits m) at (c .before .before .if1 .left) in
+    let down = simp (toZ-ofZ, y-fits m) at (c .before .if3 .taken) in
+    (ap (λ (n : ℕ). 3 * Q + n) (c .search3 .ensures .0 ∙ (λ i. first (q-is m i) (p-is m i))) ∙ sym (right-down (x m) (y m) right down), omega arith)
+
+returns-4 : tie.Need-returns-4
+returns-4 c =
+    let m = c .before .before .before .before in
+    let up = simp (toZ-ofZ, y-fits m) at (c .before .before .if3 .left) in
+    let right = simp (toZ-ofZ, x-fits m) at (c .before .if4 .taken) in
+    (c .search4 .ensures .0 ∙ (λ i. first (p-is m i) (q-is m i)) ∙ sym (right-up (x m) (y m) up right), omega arith)
+
+returns-5 : tie.Need-returns-5
+returns-5 c =
+    let m = c .before .before .before .before .before in
+    let right = simp (toZ-ofZ, x-fits m) at (c .before .before .before .before .if1 .left) in
+    let left = simp (toZ-ofZ, x-fits m) at (c .before .before .if4 .left) in
+    let up = simp (toZ-ofZ, y-fits m) at (c .before .if5 .taken) in
+    (ap (λ (n : ℕ). Q + n) (c .search5 .ensures .0 ∙ (λ i. first (q-is m i) (p-is m i))) ∙ sym (straight-up (x m) (y m) right left up), omega arith)
+
+returns-6 : tie.Need-returns-6
+returns-6 c =
+    let m = c .before .before .before .before in
+    let right = simp (toZ-ofZ, x-fits m) at (c .before .before .before .if1 .left) in
+    let left = simp (toZ-ofZ, x-fits m) at (c .before .if4 .left) in
+    let up = simp (toZ-ofZ, y-fits m) at (c .before .before .if3 .left) in
+    let down = simp (toZ-ofZ, y-fits m) at (c .if5 .left) in
+    (sym (nowhere (x m) (y m) right left up down), omega arith)
+
+pub angle-spec : {M : Type 1} → statement M
+angle-spec =
+    tie.close
+    (tie.spec
+    magnitude-requires
+    magnitude-requires-2
+    search-requires
+    add-result
+    mul-result
+    search-requires-2
+    add-result-2
+    mul-result-2
+    search-requires-3
+    add-result-3
+    search-requires-4
+    search-requires-5
+    add-result-4
+    returns
+    returns-2
+    returns-3
+    returns-4
+    returns-5
+    returns-6)

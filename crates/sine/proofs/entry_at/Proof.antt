@@ -1,0 +1,29 @@
+-- `sine::entry_at` meets its contract: the table lent is the list of entries.
+use mathlib.Core.Path.{_≡_, ap, _∙_}
+use mathlib.Core.List.{List}
+use Prim.Native.Nat.{ℕ}
+use borrow.Author.Needs.{needs}
+use lib.ListN.{getD}
+use Rattle.sine.specs.Sine.{entry}
+use Rattle.sine.proofs.Rule.{entry-at, entry-le}
+use Rattle.sine.proofs.entry_at.Statement.{statement}
+use Rattle.sine.proofs.entry_at.Tie as tie
+
+mul-wide : tie.Need-mul-wide
+mul-wide c = search needs
+
+element-copy-out-wide : tie.Need-element-copy-out-wide
+element-copy-out-wide c = search needs
+
+wide-requires : tie.Need-wide-requires
+wide-requires c κs = search needs
+
+returns : tie.Need-returns
+returns c =
+    let start = c .before .before in
+    let n = start .args .n in
+    let e : c .wide .result ≡ entry n = c .wide .ensures ∙ ap (λ (l : List ℕ). getD l n 0) (start .pre .0) ∙ entry-at n (start .pre .1) in
+    (e, rw e (entry-le n (start .pre .1)))
+
+pub entry-at-spec : {M : Type 1} → statement M
+entry-at-spec = tie.close (tie.spec mul-wide element-copy-out-wide wide-requires returns)

@@ -1,0 +1,42 @@
+-- `sine::sin_quadrant` meets its contract.
+use mathlib.Core.Path.{_≡_, refl, _∙_}
+use Prim.Native.Nat.{_+_, _/_, _%_}
+use native.Mathlib.Omega.{arith}
+use borrow.Author.Needs.{needs}
+use borrow.Author.Tests.{lt-ltb, le-ltb}
+use Rattle.sine.specs.Step.{step}
+use Rattle.sine.specs.Sine.{entry, between, sinQuadrant}
+use Rattle.sine.proofs.Monotony.{sin-le}
+use Rattle.sine.proofs.sin_quadrant.Statement.{statement}
+use Rattle.sine.proofs.sin_quadrant.Tie as tie
+
+entry-at-requires : tie.Need-entry-at-requires
+entry-at-requires c κs = search needs
+
+add-entry-at : tie.Need-add-entry-at
+add-entry-at c = search needs
+
+entry-at-requires-2 : tie.Need-entry-at-requires-2
+entry-at-requires-2 c κs = search needs
+
+interpolate-requires : tie.Need-interpolate-requires
+interpolate-requires c κs = search needs
+
+returns : tie.Need-returns
+unfolding sinQuadrant
+returns c =
+    let a = c .before .before .before .before .args .a in
+    let low = c .before .before .entry-at .ensures .0 in
+    let high = c .before .entry-at2 .ensures .0 in
+    let e : c .interpolate .result ≡ sinQuadrant a =
+    c .interpolate .ensures ∙ (λ i. between (low i) (high i) (a % step)) ∙ simp (lt-ltb _ _ (c .before .before .before .if1 .taken)) in
+    (e, rw e (sin-le a (omega arith)))
+
+returns-2 : tie.Need-returns-2
+unfolding sinQuadrant
+returns-2 c = (simp (le-ltb _ _ (c .if1 .left)), omega arith)
+
+pub sin-quadrant-spec : {M : Type 1} → statement M
+sin-quadrant-spec =
+    tie.close
+    (tie.spec entry-at-requires add-entry-at entry-at-requires-2 interpolate-requires returns returns-2)

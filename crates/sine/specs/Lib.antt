@@ -1,0 +1,4 @@
+pub mod Step
+pub mod Polynomial
+pub mod Sine
+pub mod Angle
