@@ -4,7 +4,7 @@ use mathlib.Core.Path.{_≡_, refl}
 use mathlib.Core.List.{List, [], _∷_, map}
 use lib.IntN.{ℤ}
 use Rattle.exact.specs.Division.{floorDiv, nearest}
-use Rattle.arguments.specs.Decimal.{degrees}
+use Rattle.exact.specs.Decimal.{degrees}
 use Rattle.arguments.specs.Table.{Row, rows}
 
 abbrev stored : Row → List ℤ

@@ -4,7 +4,7 @@ use Prim.Native.Nat.{ℕ}
 use mathlib.Core.List.{List, [], _∷_, map}
 use lib.IntN.{ℤ, pos, negℤ}
 use Rattle.arguments.specs.Argument.{argument}
-use Rattle.arguments.specs.Decimal.{Decimal, plus, minus, degrees}
+use Rattle.exact.specs.Decimal.{Decimal, plus, minus, degrees}
 use Rattle.arguments.specs.declared.Coefficients.{Coefficients}
 
 -- three coefficients as printed, in degrees, and in whole units
@@ -50,9 +50,56 @@ moonLongitude = row (plus 270434164 6) (plus 4812678831417 7) (minus 11333 7) (c
 abbrev pub meanObliquity : Row
 meanObliquity = row (plus 23452294 6) (minus 130125 7) (minus 164 8) (coefficients (pos 844282584) (negℤ (pos 468450)) (negℤ (pos 59)))
 
-abbrev pub rows : List Row
-rows = sunLongitude ∷ sunAnomaly ∷ moonAnomaly ∷ venusAnomaly ∷ moonElongation ∷ moonNode ∷ moonLongitude ∷ meanObliquity ∷ []
+-- the arguments of the long period terms (01, "The Sun"; 001, 2.1): 231.19° + 20.20°T; 57.24° + 150.27°T; 315.60° + 893.30°T
+abbrev pub longPeriod1 : Row
+longPeriod1 = row (plus 23119 2) (plus 2020 2) (plus 0 0) (coefficients (pos 8322840000) (pos 727200000) (pos 0))
 
--- the arguments of an instant, in the table's order
-abbrev pub argumentsOf : List Row → ℤ → ℤ → List ℤ
-argumentsOf table n q = map (λ r. pos (argument (r .units) n q)) table
+abbrev pub longPeriod2 : Row
+longPeriod2 = row (plus 5724 2) (plus 15027 2) (plus 0 0) (coefficients (pos 2060640000) (pos 5409720000) (pos 0))
+
+abbrev pub longPeriod3 : Row
+longPeriod3 = row (plus 31560 2) (plus 89330 2) (plus 0 0) (coefficients (pos 11361600000) (pos 32158800000) (pos 0))
+
+-- the eight rows of 01's table, and the three of the long period terms
+abbrev pub rows : List Row
+rows =
+    sunLongitude ∷ sunAnomaly ∷ moonAnomaly ∷ venusAnomaly ∷ moonElongation ∷ moonNode ∷ moonLongitude ∷ meanObliquity
+    ∷ longPeriod1 ∷ longPeriod2 ∷ longPeriod3 ∷ []
+
+-- the arguments of an instant, in that order
+abbrev pub argumentsOf : ℤ → ℤ → List ℤ
+argumentsOf n q = map (λ r. pos (argument (r .units) n q)) rows
+
+-- where each stands
+abbrev pub L : ℕ
+L = 0
+
+abbrev pub Ms : ℕ
+Ms = 1
+
+abbrev pub Mm : ℕ
+Mm = 2
+
+abbrev pub Mv : ℕ
+Mv = 3
+
+abbrev pub D : ℕ
+D = 4
+
+abbrev pub Ω : ℕ
+Ω = 5
+
+abbrev pub Lm : ℕ
+Lm = 6
+
+abbrev pub obliquity : ℕ
+obliquity = 7
+
+abbrev pub P1 : ℕ
+P1 = 8
+
+abbrev pub P2 : ℕ
+P2 = 9
+
+abbrev pub P3 : ℕ
+P3 = 10

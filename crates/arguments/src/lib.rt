@@ -1,9 +1,9 @@
 // The time arguments of document 01, "Time": angles that grow nearly evenly with time.
 ghost use mathlib.Core.Path.{_≡_};
 ghost use Prim.Native.Nat.{_<_};
-ghost use Rattle.exact.specs.Angle.{turn};
+ghost use Rattle.exact.specs.Angle.{turn, Angles};
 ghost use Rattle.arguments.specs.Argument.{argument, Sized, Moment};
-ghost use Rattle.arguments.specs.Table.{rows, argumentsOf};
+ghost use Rattle.arguments.specs.Table.{argumentsOf};
 
 // The coefficients of an argument, in units of 0.0001 second of arc: at 1900 January 0.5, for a century, for a century squared.
 pub struct Coefficients {
@@ -78,10 +78,47 @@ const MEAN_OBLIQUITY: Coefficients = Coefficients {
     c2: -59,
 };
 
-// The arguments of an instant, in the order of document 01's table.
-pub fn arguments(n: i64, q: i64) -> [i64; 8]
+// The argument of the long period term 6.40″: 231.19° + 20.20° T.
+const LONG_PERIOD_1: Coefficients = Coefficients {
+    c0: 8_322_840_000,
+    c1: 727_200_000,
+    c2: 0,
+};
+
+// The argument of the long period term 1.882″: 57.24° + 150.27° T.
+const LONG_PERIOD_2: Coefficients = Coefficients {
+    c0: 2_060_640_000,
+    c1: 5_409_720_000,
+    c2: 0,
+};
+
+// The argument of the long period term 0.202″: 315.60° + 893.30° T.
+const LONG_PERIOD_3: Coefficients = Coefficients {
+    c0: 11_361_600_000,
+    c1: 32_158_800_000,
+    c2: 0,
+};
+
+// How many arguments there are.
+pub const COUNT: usize = 11;
+
+// Where each stands among them; a term of a series names its arguments by these.
+pub const L: i64 = 0;
+pub const MS: i64 = 1;
+pub const MM: i64 = 2;
+pub const MV: i64 = 3;
+pub const D: i64 = 4;
+pub const OMEGA: i64 = 5;
+pub const LM: i64 = 6;
+pub const OBLIQUITY: i64 = 7;
+pub const P1: i64 = 8;
+pub const P2: i64 = 9;
+pub const P3: i64 = 10;
+
+// The arguments of an instant: those of document 01's table in its order, then those of the long period terms.
+pub fn arguments(n: i64, q: i64) -> [i64; COUNT]
     requires { ⌜ Moment n q ⌝ }
-    ensures { λ r. ⌜ r ≡ argumentsOf rows n q ⌝ }
+    ensures { λ r. ⌜ (r ≡ argumentsOf n q) × Angles r ⌝ }
 {
     [
         argument(SUN_LONGITUDE, n, q) as i64,
@@ -92,5 +129,8 @@ pub fn arguments(n: i64, q: i64) -> [i64; 8]
         argument(MOON_NODE, n, q) as i64,
         argument(MOON_LONGITUDE, n, q) as i64,
         argument(MEAN_OBLIQUITY, n, q) as i64,
+        argument(LONG_PERIOD_1, n, q) as i64,
+        argument(LONG_PERIOD_2, n, q) as i64,
+        argument(LONG_PERIOD_3, n, q) as i64,
     ]
 }

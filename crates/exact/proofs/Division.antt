@@ -1,5 +1,5 @@
 -- The laws of `floorDiv` and `nearest`: what they are, that nothing else is, and how they move with the number divided.
-use mathlib.Core.Path.{_≡_, refl, sym, ap, ap₂, _∙_}
+use mathlib.Core.Path.{_≡_, refl, sym, ap, ap₂, subst, _∙_}
 use Prim.Native.Nat.{ℕ, _+_, _*_, _≤_, _<_}
 use native.Mathlib.Nat.{mul-comm, div-add-mod, mod-lt, mul-pos, le-of-suc-le-suc, div-lt-iff-lt-mul}
 use native.Mathlib.Omega.{arith}
@@ -130,6 +130,22 @@ within-trans x y z j k = rw (split x, split y, split z) (simp zs (omega arith))
 
 pub within-add : (x y z w : ℤ) (j k : ℕ) → Within x y j → Within z w k → Within (x +ℤ z) (y +ℤ w) (j + k)
 within-add x y z w j k = rw (split x, split y, split z, split w) (simp zs (omega arith))
+
+-- a quotient between −k and k is rounded to a number between them
+pub nearest-abs : (z : ℤ) (d k : ℕ) → 0 < d → natAbs z ≤ d * k → natAbs (nearest z d) ≤ k
+nearest-abs z d k h b = go (nearest-within z (pos 0) d k h (around z (d * k) b)) (nearest-zero d h)
+  where
+    around : (z : ℤ) (n : ℕ) → natAbs z ≤ n → Within z (pos 0) n
+    around z n = rw (split z) (simp zs (omega arith))
+
+    nearest-zero : (d : ℕ) → 0 < d → pos 0 ≡ nearest (pos 0) d
+    nearest-zero d h = nearest-is (pos 0) (pos 0) d h (simp zs (omega arith)) (simp zs (omega arith))
+
+    go : {x y : ℤ} → Within x y k → pos 0 ≡ y → natAbs x ≤ k
+    go {x} {y} w e = near x (subst (λ (v : ℤ). Within x v k) (sym e) w)
+      where
+        near : (x : ℤ) → Within x (pos 0) k → natAbs x ≤ k
+        near x = rw (split x) (simp zs (omega arith))
 
 -- ---- the same fraction with another denominator
 pub floor-scale : (z : ℤ) (d e : ℕ) → 0 < d → 0 < e → floorDiv (pos e *ℤ z) (e * d) ≡ floorDiv z d

@@ -1,7 +1,9 @@
 -- Document 01, "Units and rounding": angles in units of 0.0001 second of arc, reduced to one turn.
 -- Assumes nothing.
-use Prim.Native.Nat.{ℕ, _-_, _*_, min, max}
+use mathlib.Core.List.{List}
+use Prim.Native.Nat.{ℕ, _-_, _*_, _<_, min, max}
 use lib.IntN.{ℤ, pos, natAbs, _-ℤ_, _*ℤ_}
+use lib.ListN.{getD}
 use Rattle.exact.specs.Division.{floorDiv}
 
 -- a quadrant, 01's Q
@@ -27,3 +29,7 @@ apart a b = max a b - min a b
 -- 01's "short way between two reduced angles": "the smaller of two numbers: the larger angle less the smaller, and turn less that"
 unfoldable pub shortWay : ℕ → ℕ → ℕ
 shortWay a b = min (apart a b) (turn - apart a b)
+
+-- reduced angles, held as signed numbers so that multiples of them can be taken
+abbrev pub Angles : List ℤ → Type 0
+Angles angles = (i : ℕ) → natAbs (getD angles i (pos 0)) < turn

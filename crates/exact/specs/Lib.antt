@@ -3,3 +3,4 @@ pub mod Angle
 pub mod Century
 pub mod Largest
 pub mod Range
+pub mod Decimal

@@ -3,17 +3,18 @@
 use mathlib.Core.Path.{_≡_, refl, sym, ap, _∙_}
 use mathlib.Core.Bool.{Bool, true, false, _&&_, true≢false}
 use mathlib.Core.List.{List, [], _∷_}
-use Prim.Native.Nat.{ℕ, zero, suc, _+_, _*_, _≤_, _<_}
+use Prim.Native.Nat.{ℕ, zero, suc, _+_, _*_, _^_, _≤_, _<_}
 use native.Mathlib.Nat.{le-refl, le-trans, le-of-suc-le-suc, not-suc-le-zero}
 use native.Mathlib.Omega.{arith}
 use lib.IntN.{ℤ, pos, natAbs, _+ℤ_, _*ℤ_}
 use lib.ListN.{length, getD, take}
-use Rattle.exact.specs.Angle.{turn}
+use Rattle.exact.specs.Angle.{turn, Angles}
 use Rattle.exact.proofs.Turn.{reduced-lt}
 use Rattle.exact.proofs.Differences.{split, zs}
 use Rattle.exact.proofs.Integers.{abs-*-le}
 use Rattle.series.specs.Term.{Term, value, amplitudeOf, angleOf, weight, termOf}
-use Rattle.series.specs.Sum.{total, weights, small, allSmall, termsOf}
+use Rattle.series.specs.Sum.{total, weights, small, allSmall, termsOf, Ready}
+use Rattle.sine.specs.Sine.{entries}
 use Rattle.series.proofs.Sizes.{amplitude-le}
 
 -- ---- one term more
@@ -72,3 +73,8 @@ unfolding allSmall
 small-at k [] i e h = absurd (not-suc-le-zero h)
 small-at k (r ∷ rs) zero e h = and-both (small k (termOf r)) (allSmall k (termsOf rs)) e .0
 small-at k (r ∷ rs) (suc i) e h = small-at k rs i (and-both (small k (termOf r)) (allSmall k (termsOf rs)) e .1) (le-of-suc-le-suc h)
+
+-- ---- a sum over k arguments, whose terms antt tests
+pub ready : (k : ℕ) {table : List ℕ} {rows : List (List ℤ)} {arguments : List ℤ} {q : ℤ} → table ≡ entries → natAbs q ≤ 1500000 → Angles arguments
+    → length arguments ≡ k → allSmall k (termsOf rows) ≡ true → weights (termsOf rows) ≤ 2 ^ 31 → Ready table rows arguments q
+ready k t h a l s w = record { sines = t; moment = h; terms = rw l s; light = w; angles = a }

@@ -1,2 +1,3 @@
 pub mod Term
 pub mod Sum
+pub mod Written

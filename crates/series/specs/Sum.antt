@@ -1,15 +1,16 @@
 -- Document 01, "The Sun": "Products amplitude·Sin are summed exactly and divided by R once, to nearest." For any list of terms.
 -- Assumes nothing.
-use Prim.Native.Nat.{ℕ, _+_, _*_, _^_, _≤_, _<_}
+use mathlib.Core.Path.{_≡_}
+use Prim.Native.Nat.{ℕ, _+_, _*_, _^_, _≤_}
 use mathlib.Core.Bool.{Bool, true, _&&_}
 use mathlib.Core.List.{List, [], _∷_, map}
 use lib.Dec.{leb, ltb}
 use lib.IntN.{ℤ, pos, natAbs, _+ℤ_, _*ℤ_}
-use lib.ListN.{getD}
-use Rattle.exact.specs.Angle.{turn}
+use lib.ListN.{length}
+use Rattle.exact.specs.Angle.{Angles}
 use Rattle.exact.specs.Division.{nearest}
 use Rattle.sine.specs.Polynomial.{polyDen}
-use Rattle.sine.specs.Sine.{R, Sin, polyAt}
+use Rattle.sine.specs.Sine.{R, entries, Sin, polyAt}
 use Rattle.series.specs.Term.{Part, Term, value, weight, termOf}
 
 -- the exact sum, with a function f in the sine's place
@@ -49,10 +50,14 @@ unfoldable pub allSmall : ℕ → List Term → Bool
 allSmall k [] = true
 allSmall k (t ∷ ts) = small k t && allSmall k ts
 
--- reduced angles, as signed numbers
-abbrev pub Angles : List ℤ → Type 0
-Angles arguments = (i : ℕ) → natAbs (getD arguments i (pos 0)) < turn
-
 -- rows of ten numbers as terms
 abbrev pub termsOf : List (List ℤ) → List Term
 termsOf rows = map termOf rows
+
+-- what a sum asks: the table lent, q of an accepted instant, terms that are small and not too heavy together, arguments that are reduced
+pub record Ready (table : List ℕ) (rows : List (List ℤ)) (arguments : List ℤ) (q : ℤ) : Type 0 where
+  pub sines : table ≡ entries
+  pub moment : natAbs q ≤ 1500000
+  pub terms : allSmall (length arguments) (termsOf rows) ≡ true
+  pub light : weights (termsOf rows) ≤ 2 ^ 31
+  pub angles : Angles arguments

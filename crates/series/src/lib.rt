@@ -7,11 +7,14 @@ ghost use mathlib.Core.Bool.{true};
 ghost use Prim.Native.Nat.{_+_, _*_, _≤_, _<_, _^_};
 ghost use lib.IntN.{pos, natAbs, _*ℤ_};
 ghost use lib.ListN.{length, getD};
-ghost use Rattle.exact.specs.Angle.{turn};
+ghost use Rattle.exact.specs.Angle.{turn, Angles};
 ghost use Rattle.sine.specs.Sine.{R, entries, Sin};
 ghost use Rattle.series.specs.Term.{amplitude, angleOf, value, weight, termOf};
-ghost use Rattle.series.specs.Sum.{total, weights, small, allSmall, Angles, termsOf};
+ghost use Rattle.series.specs.Sum.{total, tableSum, weights, small, termsOf, Ready};
 use sine::SineTable;
+
+// What a sine of one is scaled to: document 01's R.
+pub const RADIUS: i64 = 1_000_000_000;
 
 // An amplitude at q.
 fn amplitude(c0: i64, c1: i64, c2: i64, q: i64) -> i64
@@ -51,7 +54,7 @@ fn product(t: &SineTable, row: [i64; 10], arguments: &[i64], q: i64) -> i64
 
 // The exact sum of the products of a list of terms.
 pub fn sum(t: &SineTable, terms: &[[i64; 10]], arguments: &[i64], q: i64) -> i64
-    requires { ⌜ ((now t ≡ entries) × (natAbs q ≤ 1500000)) × (allSmall (length (now arguments)) (termsOf (now terms)) ≡ true) × (weights (termsOf (now terms)) ≤ 2 ^ 31) × Angles (now arguments) ⌝ }
+    requires { ⌜ Ready (now t) (now terms) (now arguments) q ⌝ }
     ensures { λ r. ⌜ (r ≡ total Sin (now (arguments .entry)) q (termsOf (now (terms .entry)))) × (natAbs r ≤ R * weights (termsOf (now (terms .entry)))) ⌝ }
 {
     let mut sum: i64 = 0;
@@ -59,4 +62,12 @@ pub fn sum(t: &SineTable, terms: &[[i64; 10]], arguments: &[i64], q: i64) -> i64
         sum += product(t, terms[i], arguments, q);
     }
     sum
+}
+
+// The sum in units: divided by R once, to nearest.
+pub fn rounded_sum(t: &SineTable, terms: &[[i64; 10]], arguments: &[i64], q: i64) -> i64
+    requires { ⌜ Ready (now t) (now terms) (now arguments) q ⌝ }
+    ensures { λ r. ⌜ (r ≡ tableSum (now (arguments .entry)) q (termsOf (now (terms .entry)))) × (natAbs r ≤ weights (termsOf (now (terms .entry)))) ⌝ }
+{
+    exact::nearest_div(sum(t, terms, arguments, q), RADIUS)
 }

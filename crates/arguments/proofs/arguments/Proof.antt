@@ -1,14 +1,16 @@
 -- `arguments::arguments` meets its contract: each call gives the argument of its row.
-use mathlib.Core.Path.{_≡_, refl, ap, ap₂, _∙_}
-use mathlib.Core.List.{_∷_}
-use Prim.Native.Nat.{ℕ, _<_}
+use mathlib.Core.Path.{_≡_, refl, ap, ap₂, subst⁻¹, _∙_}
+use mathlib.Core.List.{List, [], _∷_, map}
+use Prim.Native.Nat.{ℕ, zero, suc, _<_}
 use native.Mathlib.Omega.{arith}
-use lib.IntN.{pos}
+use lib.IntN.{ℤ, pos}
 use mir.Facts.{toZ-ofZ}
 use mir.Syntax.{w64}
 use mir.Val.{SFits, ofZ, toZ}
-use Rattle.exact.specs.Angle.{turn}
+use Rattle.exact.specs.Angle.{turn, Angles}
+use Rattle.exact.proofs.Turn.{reduced-lt}
 use Rattle.arguments.specs.Argument.{argument}
+use Rattle.arguments.specs.Table.{Row, rows, argumentsOf}
 use Rattle.arguments.specs.declared.Coefficients.{Coefficients}
 use borrow.Author.Needs.{needs}
 use Rattle.arguments.proofs.arguments.Statement.{statement}
@@ -21,6 +23,46 @@ angle : (s : tie.Start) (c : Coefficients) (r : ℕ)
 angle s c r p =
     let f : SFits w64 (pos r) = record { sfits = omega arith } in
     toZ-ofZ f ∙ ap pos (simp (toZ-ofZ, s .fits .n, s .fits .q) at (p .0))
+
+-- each is reduced
+angles : (rs : List Row) (n q : ℤ) → Angles (map (λ r. pos (argument (r .units) n q)) rs)
+unfolding argument
+angles [] n q i = omega arith
+angles (r ∷ rs) n q zero = reduced-lt _
+angles (r ∷ rs) n q (suc i) = angles rs n q i
+
+module _ (c : tie.After-argument11) where
+  abbrev start : tie.Start
+  start = c .before .before .before .before .before .before .before .before .before .before .before
+
+  abbrev found : List ℤ
+  found =
+      toZ w64 (c .before .before .before .before .before .before .before .before .before .before .argument .result)
+      ∷ toZ w64 (c .before .before .before .before .before .before .before .before .before .argument2 .result)
+      ∷ toZ w64 (c .before .before .before .before .before .before .before .before .argument3 .result)
+      ∷ toZ w64 (c .before .before .before .before .before .before .before .argument4 .result)
+      ∷ toZ w64 (c .before .before .before .before .before .before .argument5 .result)
+      ∷ toZ w64 (c .before .before .before .before .before .argument6 .result)
+      ∷ toZ w64 (c .before .before .before .before .argument7 .result)
+      ∷ toZ w64 (c .before .before .before .argument8 .result)
+      ∷ toZ w64 (c .before .before .argument9 .result)
+      ∷ toZ w64 (c .before .argument10 .result)
+      ∷ toZ w64 (c .argument11 .result)
+      ∷ []
+
+  found-is : found ≡ argumentsOf (start .args .n) (start .args .q)
+  found-is =
+      ap₂ _∷_ (angle start _ _ (c .before .before .before .before .before .before .before .before .before .before .argument .ensures))
+      (ap₂ _∷_ (angle start _ _ (c .before .before .before .before .before .before .before .before .before .argument2 .ensures))
+      (ap₂ _∷_ (angle start _ _ (c .before .before .before .before .before .before .before .before .argument3 .ensures))
+      (ap₂ _∷_ (angle start _ _ (c .before .before .before .before .before .before .before .argument4 .ensures))
+      (ap₂ _∷_ (angle start _ _ (c .before .before .before .before .before .before .argument5 .ensures))
+      (ap₂ _∷_ (angle start _ _ (c .before .before .before .before .before .argument6 .ensures))
+      (ap₂ _∷_ (angle start _ _ (c .before .before .before .before .argument7 .ensures))
+      (ap₂ _∷_ (angle start _ _ (c .before .before .before .argument8 .ensures))
+      (ap₂ _∷_ (angle start _ _ (c .before .before .argument9 .ensures))
+      (ap₂ _∷_ (angle start _ _ (c .before .argument10 .ensures))
+      (ap₂ _∷_ (angle start _ _ (c .argument11 .ensures)) refl))))))))))
 
 argument-requires : tie.Need-argument-requires
 argument-requires c κs = search needs
@@ -70,21 +112,26 @@ argument-requires-8 c κs = search needs
 cast-t26 : tie.Need-cast-t26
 cast-t26 c = search needs
 
+argument-requires-9 : tie.Need-argument-requires-9
+argument-requires-9 c κs = search needs
+
+cast-t29 : tie.Need-cast-t29
+cast-t29 c = search needs
+
+argument-requires-10 : tie.Need-argument-requires-10
+argument-requires-10 c κs = search needs
+
+cast-t32 : tie.Need-cast-t32
+cast-t32 c = search needs
+
+argument-requires-11 : tie.Need-argument-requires-11
+argument-requires-11 c κs = search needs
+
+cast-t35 : tie.Need-cast-t35
+cast-t35 c = search needs
+
 returns : tie.Need-returns
-returns c =
-    let s = c .before .before .before .before .before .before .before .before in
-    let h = c .before .before .before .before .before .before .before in
-    let g = c .before .before .before .before .before .before in
-    let f = c .before .before .before .before .before in
-    let e = c .before .before .before .before in
-    ap₂ _∷_ (angle s _ _ (h .argument .ensures))
-    (ap₂ _∷_ (angle s _ _ (g .argument2 .ensures))
-    (ap₂ _∷_ (angle s _ _ (f .argument3 .ensures))
-    (ap₂ _∷_ (angle s _ _ (e .argument4 .ensures))
-    (ap₂ _∷_ (angle s _ _ (c .before .before .before .argument5 .ensures))
-    (ap₂ _∷_ (angle s _ _ (c .before .before .argument6 .ensures))
-    (ap₂ _∷_ (angle s _ _ (c .before .argument7 .ensures))
-    (ap₂ _∷_ (angle s _ _ (c .argument8 .ensures)) refl)))))))
+returns c = (found-is c, subst⁻¹ Angles (found-is c) (angles rows (start c .args .n) (start c .args .q)))
 
 pub arguments-spec : {M : Type 1} → statement M
 arguments-spec =
@@ -106,4 +153,10 @@ arguments-spec =
     cast-t23
     argument-requires-8
     cast-t26
+    argument-requires-9
+    cast-t29
+    argument-requires-10
+    cast-t32
+    argument-requires-11
+    cast-t35
     returns)

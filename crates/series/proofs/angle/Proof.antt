@@ -8,11 +8,10 @@ use lib.IntN.{ℤ, pos, natAbs, _+ℤ_, _*ℤ_}
 use lib.ListN.{length, getD}
 use mir.Syntax.{w64}
 use mir.Val.{SFits}
-use Rattle.exact.specs.Angle.{reduced}
+use Rattle.exact.specs.Angle.{reduced, Angles}
 use Rattle.exact.proofs.Differences.{split, zs}
 use Rattle.exact.proofs.Machine.{held, held-is, ok-fits}
 use Rattle.series.specs.Term.{termOf, angleOf}
-use Rattle.series.specs.Sum.{Angles}
 use Rattle.series.proofs.Sizes.{Small, is-small}
 use Rattle.series.proofs.angle.Statement.{statement}
 use Rattle.series.proofs.angle.Tie as tie

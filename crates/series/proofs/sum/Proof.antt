@@ -61,7 +61,7 @@ q-is : (s : tie.Start Inv-loop μ-loop) → toZ w64 (ofZ w64 (s .args .q)) ≡ s
 q-is s = toZ-ofZ (s .fits .q)
 
 q-le : (s : tie.Start Inv-loop μ-loop) → natAbs (toZ w64 (ofZ w64 (s .args .q))) ≤ 1500000
-q-le s = rw (q-is s) (s .pre .0 .1)
+q-le s = rw (q-is s) (s .pre .moment)
 
 loop-holds : tie.Need-loop-holds Inv-loop μ-loop
 unfolding total
@@ -77,7 +77,7 @@ product-requires : tie.Need-product-requires Inv-loop μ-loop
 product-requires c κs =
     let l = c .before .before in
     let s = l .before in
-    ((s .pre .0 .0, q-le s), small-at _ (s .args .terms .now) (l .loop .i) (s .pre .1) (omega arith), s .pre .3)
+    ((s .pre .sines, q-le s), small-at _ (s .args .terms .now) (l .loop .i) (s .pre .terms) (omega arith), s .pre .angles)
 
 -- a turn of the loop
 module _ (c : tie.After-product Inv-loop μ-loop) where
@@ -95,7 +95,7 @@ unfolding held
 add-sum c =
     let l = loop c in
     let s = start c in
-    step-fits (s .args .terms .now) (s .args .arguments .now) (toZ w64 (ofZ w64 (s .args .q))) (q-le s) (s .pre .2) (l .loop .i) (l .loop .sum) (c .product .result)
+    step-fits (s .args .terms .now) (s .args .arguments .now) (toZ w64 (ofZ w64 (s .args .q))) (q-le s) (s .pre .light) (l .loop .i) (l .loop .sum) (c .product .result)
     (inside c) (l .loop .inv .2) (ok-fits (c .product .result) (c .product .ok)) (c .product .ensures .0)
 
 add-i : tie.Need-add-i Inv-loop μ-loop
@@ -110,14 +110,14 @@ loop-again c =
     let l = loop c in
     let s = start c in
     (refl, omega arith,
-    step-bits (s .args .terms .now) (s .args .arguments .now) (toZ w64 (ofZ w64 (s .args .q))) (q-le s) (s .pre .2) (l .loop .i) (l .loop .sum) (c .product .result)
+    step-bits (s .args .terms .now) (s .args .arguments .now) (toZ w64 (ofZ w64 (s .args .q))) (q-le s) (s .pre .light) (l .loop .i) (l .loop .sum) (c .product .result)
     (inside c) (l .loop .inv .2) (ok-fits (c .product .result) (c .product .ok)) (c .product .ensures .0))
 
 returns : tie.Need-returns Inv-loop μ-loop
 returns c =
     let l = c .before in
     let s = l .before in
-    let e = ended (s .args .terms .now) (s .args .arguments .now) (toZ w64 (ofZ w64 (s .args .q))) (q-le s) (s .pre .2) (l .loop .i) (l .loop .sum) (omega arith) (l .loop .inv .2) in
+    let e = ended (s .args .terms .now) (s .args .arguments .now) (toZ w64 (ofZ w64 (s .args .q))) (q-le s) (s .pre .light) (l .loop .i) (l .loop .sum) (omega arith) (l .loop .inv .2) in
     (e .0 ∙ ap (λ (q : ℤ). total Sin (s .args .arguments .now) q (termsOf (s .args .terms .now))) (q-is s), e .1)
 
 pub sum-spec : {M : Type 1} → statement M

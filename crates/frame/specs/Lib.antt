@@ -1,0 +1,3 @@
+pub mod Nutation
+pub mod Sidereal
+pub mod Promise
