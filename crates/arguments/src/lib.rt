@@ -104,15 +104,25 @@ pub const COUNT: usize = 11;
 
 // Where each stands among them; a term of a series names its arguments by these.
 pub const L: i64 = 0;
+
 pub const MS: i64 = 1;
+
 pub const MM: i64 = 2;
+
 pub const MV: i64 = 3;
+
 pub const D: i64 = 4;
+
 pub const OMEGA: i64 = 5;
+
 pub const LM: i64 = 6;
+
 pub const OBLIQUITY: i64 = 7;
+
 pub const P1: i64 = 8;
+
 pub const P2: i64 = 9;
+
 pub const P3: i64 = 10;
 
 // The arguments of an instant: those of document 01's table in its order, then those of the long period terms.

@@ -53,13 +53,14 @@ and-true false b e = (e, absurd (true≢false (sym e)))
 pub is-le : {a b : ℤ} → leZ a b ≡ true → a ≤ℤ b
 is-le e = leZ-yes (subst T (sym e) tt)
 
+-- ---- a magnitude is a word of 64 bits
+pub abs-word : (z : ℤ) → SFits w64 z → Fits w64 (natAbs z)
+abs-word (pos n) f = record { fits = omega (arith, f .sfits) }
+abs-word (negsuc n) f = record { fits = omega (arith, f .sfits) }
+
 -- ---- casts: `x as usize` of an x that is not negative, and `i as i64`
 pub to-nat : (z : ℤ) → pos 0 ≤ℤ z → SFits w64 z → T (nonNeg z) × Fits w64 (natAbs z)
-to-nat z h f = (yes-nonNeg h, record { fits = go z f })
-  where
-    go : (z : ℤ) → SFits w64 z → natAbs z < 2 ^ 64
-    go (pos n) f = let l = f .sfits in omega arith
-    go (negsuc n) f = let l = f .sfits in omega arith
+to-nat z h f = (yes-nonNeg h, abs-word z f)
 
 -- ---- a range that was tested
 pub between-low : (low z high : ℤ) → between low z high ≡ true → low ≤ℤ z

@@ -22,18 +22,18 @@ const Q: i64 = 3_240_000_000;
 // The terms of Δψ: c0, c1, c2, phase, and each part's multiple and argument. The printed amplitudes, in seconds, stand behind them.
 const LONGITUDE: [[i64; 10]; 5] = [
     [-172_327, -174, 0, 0, 1, OMEGA, 0, 0, 0, 0], // −17.2327 − 0.01737 T
-    [2_088, 0, 0, 0, 2, OMEGA, 0, 0, 0, 0],       // 0.2088
-    [-12_729, 0, 0, 0, 2, L, 0, 0, 0, 0],         // −1.2729
-    [-2_037, 0, 0, 0, 2, LM, 0, 0, 0, 0],         // −0.2037
-    [1_261, 0, 0, 0, 1, MS, 0, 0, 0, 0],          // 0.1261
+    [2_088, 0, 0, 0, 2, OMEGA, 0, 0, 0, 0], // 0.2088
+    [-12_729, 0, 0, 0, 2, L, 0, 0, 0, 0], // −1.2729
+    [-2_037, 0, 0, 0, 2, LM, 0, 0, 0, 0], // −0.2037
+    [1_261, 0, 0, 0, 1, MS, 0, 0, 0, 0], // 0.1261
 ];
 
 // The terms of Δε, all cosines.
 const OBLIQUITY: [[i64; 10]; 4] = [
     [92_100, 0, 0, Q, 1, OMEGA, 0, 0, 0, 0], // 9.2100
-    [5_522, 0, 0, Q, 2, L, 0, 0, 0, 0],      // 0.5522
-    [-904, 0, 0, Q, 2, OMEGA, 0, 0, 0, 0],   // −0.0904
-    [884, 0, 0, Q, 2, LM, 0, 0, 0, 0],       // 0.0884
+    [5_522, 0, 0, Q, 2, L, 0, 0, 0, 0], // 0.5522
+    [-904, 0, 0, Q, 2, OMEGA, 0, 0, 0, 0], // −0.0904
+    [884, 0, 0, Q, 2, LM, 0, 0, 0, 0], // 0.0884
 ];
 
 // The orientation of the equator at an instant, in units: the mean obliquity, the nutation in longitude Δψ, the true obliquity ε.

@@ -81,7 +81,7 @@ sums : (c : tie.After-reduced-arg)
     × SFits w64 (held (held (at (start (c .before)) 3) +ℤ held (one (c .before) .part .result)) +ℤ held (two (c .before) .part2 .result))
     × SFits w64 (held (held (held (at (start (c .before)) 3) +ℤ held (one (c .before) .part .result)) +ℤ held (two (c .before) .part2 .result)) +ℤ held (c .before .part3 .result))
     × (held (held (held (held (at (start (c .before)) 3) +ℤ held (one (c .before) .part .result)) +ℤ held (two (c .before) .part2 .result)) +ℤ held (c .before .part3 .result))
-      ≡ at (start (c .before)) 3 +ℤ one (c .before) .part .result +ℤ two (c .before) .part2 .result +ℤ c .before .part3 .result)
+    ≡ at (start (c .before)) 3 +ℤ one (c .before) .part .result +ℤ two (c .before) .part2 .result +ℤ c .before .part3 .result)
 unfolding termOf
 sums c =
     let d = c .before in

@@ -108,10 +108,12 @@ loop-again : tie.Need-loop-again Inv-loop μ-loop
 unfolding held
 loop-again c =
     let l = loop c in
-    let s = start c in
-    (refl, omega arith,
-    step-bits (s .args .terms .now) (s .args .arguments .now) (toZ w64 (ofZ w64 (s .args .q))) (q-le s) (s .pre .light) (l .loop .i) (l .loop .sum) (c .product .result)
-    (inside c) (l .loop .inv .2) (ok-fits (c .product .result) (c .product .ok)) (c .product .ensures .0))
+    let s = start c in (
+      refl,
+      omega arith,
+      step-bits (s .args .terms .now) (s .args .arguments .now) (toZ w64 (ofZ w64 (s .args .q))) (q-le s) (s .pre .light) (l .loop .i) (l .loop .sum) (c .product .result)
+          (inside c) (l .loop .inv .2) (ok-fits (c .product .result) (c .product .ok)) (c .product .ensures .0),
+    )
 
 returns : tie.Need-returns Inv-loop μ-loop
 returns c =
