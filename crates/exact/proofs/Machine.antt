@@ -46,7 +46,7 @@ is-lt e = ltZ-yes (subst T (sym e) tt)
 pub is-ge : {a b : ℤ} → ltZ a b ≡ false → b ≤ℤ a
 is-ge e = ltZ-no (subst (λ (x : Bool). T (not x)) (sym e) tt)
 
-and-true : (a b : Bool) → (a && b) ≡ true → (a ≡ true) × (b ≡ true)
+pub and-true : (a b : Bool) → (a && b) ≡ true → (a ≡ true) × (b ≡ true)
 and-true true b e = (refl, e)
 and-true false b e = (e, absurd (true≢false (sym e)))
 

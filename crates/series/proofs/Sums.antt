@@ -2,7 +2,7 @@
 -- Assumes nothing.
 use mathlib.Core.Path.{_≡_, refl, sym, ap, _∙_}
 use mathlib.Core.Bool.{Bool, true, false, _&&_, true≢false}
-use mathlib.Core.List.{List, [], _∷_}
+use mathlib.Core.List.{List, [], _∷_, _++_}
 use Prim.Native.Nat.{ℕ, zero, suc, _+_, _*_, _^_, _≤_, _<_}
 use native.Mathlib.Nat.{le-refl, le-trans, le-of-suc-le-suc, not-suc-le-zero}
 use native.Mathlib.Omega.{arith}
@@ -18,13 +18,13 @@ use Rattle.sine.specs.Sine.{entries}
 use Rattle.series.proofs.Sizes.{amplitude-le}
 
 -- ---- one term more
+shift : (a b c : ℤ) → a +ℤ (b +ℤ c) ≡ a +ℤ b +ℤ c
+shift a b c = rw (split a, split b, split c) (simp zs (omega arith))
+
+last : (a : ℤ) → a +ℤ pos 0 ≡ pos 0 +ℤ a
+last a = rw (split a) (simp zs (omega arith))
+
 module _ (f : ℕ → ℤ) (arguments : List ℤ) (q : ℤ) where
-  shift : (a b c : ℤ) → a +ℤ (b +ℤ c) ≡ a +ℤ b +ℤ c
-  shift a b c = rw (split a, split b, split c) (simp zs (omega arith))
-
-  last : (a : ℤ) → a +ℤ pos 0 ≡ pos 0 +ℤ a
-  last a = rw (split a) (simp zs (omega arith))
-
   pub total-more : (rows : List (List ℤ)) (i : ℕ) → i < length rows
       → total f arguments q (termsOf (take (suc i) rows)) ≡ total f arguments q (termsOf (take i rows)) +ℤ value f arguments q (termOf (getD rows i []))
   unfolding total
@@ -78,3 +78,14 @@ small-at k (r ∷ rs) (suc i) e h = small-at k rs i (and-both (small k (termOf r
 pub ready : (k : ℕ) {table : List ℕ} {rows : List (List ℤ)} {arguments : List ℤ} {q : ℤ} → table ≡ entries → natAbs q ≤ 1500000 → Angles arguments
     → length arguments ≡ k → allSmall k (termsOf rows) ≡ true → weights (termsOf rows) ≤ 2 ^ 31 → Ready table rows arguments q
 ready k t h a l s w = record { sines = t; moment = h; terms = rw l s; light = w; angles = a }
+
+-- ---- two lists one after the other
+pub total-append : (f : ℕ → ℤ) (arguments : List ℤ) (q : ℤ) (xs ys : List Term) → total f arguments q xs +ℤ total f arguments q ys ≡ total f arguments q (xs ++ ys)
+unfolding total
+total-append f arguments q [] ys = zero-left (total f arguments q ys)
+  where
+    zero-left : (z : ℤ) → pos 0 +ℤ z ≡ z
+    zero-left z = rw (split z) (simp zs (omega arith))
+total-append f arguments q (x ∷ xs) ys =
+    sym (shift (value f arguments q x) (total f arguments q xs) (total f arguments q ys))
+    ∙ ap (λ (z : ℤ). value f arguments q x +ℤ z) (total-append f arguments q xs ys)

@@ -15,7 +15,7 @@ use Rattle.sine.specs.Sine.{sinQuadrant}
 use Rattle.sine.specs.Angle.{passes, first}
 use Rattle.sine.proofs.Quadrant.{sin-zero}
 use Rattle.sine.proofs.Turned.{sin-1, cos-1}
-use Rattle.sine.proofs.Monotony.{sin-climbs}
+use Rattle.sine.proofs.Monotonicity.{sin-climbs}
 
 pub passes-is : (x y a : ℕ) → a ≤ Q → passes x y a ≡ leb (x * sinQuadrant a) (y * sinQuadrant (Q - a))
 unfolding passes

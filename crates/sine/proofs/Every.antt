@@ -1,22 +1,17 @@
 -- A rule of every number below n, from one test that antt computes over all of them; and order from one step to the next.
-use mathlib.Core.Bool.{Bool, true, _&&_}
-use mathlib.Core.Logic.{⊎-elim}
+use mathlib.Core.Bool.{Bool}
 use Prim.Native.Nat.{ℕ, zero, suc, _+_, _-_, _≤_, _<_}
-use native.Mathlib.Nat.{le-refl, le-trans, eq-or-lt-of-le, le-of-suc-le-suc, not-suc-le-zero, add-zero, add-suc, add-sub-of-le}
+use native.Mathlib.Nat.{le-refl, le-trans, add-zero, add-suc, add-sub-of-le}
 use native.Mathlib.Omega.{arith}
 use lib.Dec.{T, leb, leb→le}
-use Rattle.exact.proofs.Table.{and-l, and-r}
+use Rattle.exact.proofs.Table.{allBelow, below-all}
 
 -- f is at most g at every number below n
 abbrev pub everyLe : (ℕ → ℕ) → (ℕ → ℕ) → ℕ → Bool
-everyLe f g zero = true
-everyLe f g (suc n) = leb (f n) (g n) && everyLe f g n
+everyLe f g n = allBelow (λ k. leb (f k) (g k)) n
 
 pub every-le : (f g : ℕ → ℕ) (n : ℕ) → T (everyLe f g n) → (k : ℕ) → k < n → f k ≤ g k
-every-le f g zero t k h = absurd (not-suc-le-zero h)
-every-le f g (suc n) t k h =
-    ⊎-elim (λ e. rw e (leb→le (f n) (g n) (and-l (leb (f n) (g n)) (everyLe f g n) t))) (every-le f g n (and-r (leb (f n) (g n)) (everyLe f g n) t) k)
-    (eq-or-lt-of-le (le-of-suc-le-suc h))
+every-le f g n t k h = leb→le (f k) (g k) (below-all (λ k. leb (f k) (g k)) n k t h)
 
 -- what does not fall from a number to the next does not fall
 module _ (f : ℕ → ℕ) (m : ℕ) (next : (n : ℕ) → n < m → f n ≤ f (suc n)) where

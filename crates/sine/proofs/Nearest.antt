@@ -1,5 +1,5 @@
 -- The laws of `nearestℕ`, for any divisor.
-use mathlib.Core.Path.{_≡_, ap, _∙_}
+use mathlib.Core.Path.{_≡_}
 use Prim.Native.Nat.{ℕ, suc, _+_, _*_, _≤_, _<_}
 use native.Mathlib.Nat.{mul-div-le, lt-mul-div-succ, le-div-iff-mul-le, le-antisymm, mul-comm, lt-of-mul-lt-mul-left, mul-add, mul-one, le-of-suc-le-suc}
 use native.Mathlib.Omega.{arith}

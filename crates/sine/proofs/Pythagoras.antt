@@ -1,6 +1,6 @@
 -- ONE FACT OVER ALL ANGLES, for rotations: Sin(a)² + Cos(a)² lies between (R − promise)² and R·(R + 3), which is below (R + 2)². At the table's angles it is
 -- a test that antt computes, over the entries n and N − n; between them a sum of two squares along a chord (`Squares`); in the other quadrants Sin and Cos
--- are those of the first, up to their signs. With a step of 5′ the largest sum is R·(R + 2.502) and the smallest (R − 265.4)².
+-- are those of the first, up to their signs. With a step of 5′ the largest sum is R·(R + 2.502), and the smallest is about (R − 265.6)².
 use mathlib.Core.Path.{_≡_, sym}
 use Prim.Native.Nat.{ℕ, suc, _+_, _-_, _*_, _/_, _≤_, _<_}
 use native.Mathlib.Nat.{le-trans, add-sub-of-le}
@@ -11,13 +11,14 @@ use Rattle.exact.specs.Division.{nearestℕ}
 use Rattle.exact.specs.Angle.{Q, turn}
 use Rattle.sine.specs.Step.{step, promise}
 use Rattle.sine.specs.Polynomial.{polyNum, polyDen, term, cofactor, arc, whole}
-use Rattle.sine.specs.Sine.{R, entry, sinQuadrant, Sin, Cos, circleLeast, circleMost, OnCircle}
+use Rattle.sine.specs.Sine.{R, entry, sinQuadrant, Sin, Cos}
+use Rattle.sine.specs.Promises.{circleLeast, circleMost, OnCircle}
 use Rattle.sine.proofs.Nearest.{rounds}
 use Rattle.sine.proofs.Every.{everyLe, every-le}
 use Rattle.sine.proofs.Rule.{entry-climbs}
 use Rattle.sine.proofs.Quadrant.{mix, sin-at, placed}
 use Rattle.sine.proofs.Turned.{folded}
-use Rattle.sine.proofs.Monotony.{sin-le}
+use Rattle.sine.proofs.Monotonicity.{sin-le}
 use Rattle.sine.proofs.Squares.{above, below}
 
 -- the last entry's number

@@ -1,11 +1,10 @@
 -- The entries of the table: what its list holds at each place, and that they do not fall from 0 to R.
 use mathlib.Core.Path.{_≡_, refl, ap, _∙_, sym}
-use mathlib.Core.List.{List, _∷_}
 use Prim.Native.Nat.{ℕ, zero, suc, _+_, _/_, _≤_, _<_}
 use native.Mathlib.Nat.{le-of-suc-le-suc, not-suc-le-zero, add-zero, zero-add, add-suc, suc-add}
 use native.Mathlib.Omega.{arith}
 use lib.Dec.{T}
-use lib.ListN.{length, getD}
+use lib.ListN.{getD}
 use Rattle.exact.specs.Division.{nearestℕ}
 use Rattle.exact.specs.Angle.{Q}
 use Rattle.sine.specs.Step.{step}

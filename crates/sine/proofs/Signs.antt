@@ -1,32 +1,14 @@
--- The negative of an `i64`, and the angle of a vector by the tests of its components' signs, as the code makes them.
-use mathlib.Core.Path.{_≡_, refl, sym, ap, _∙_, subst}
+-- The angle of a vector by the tests of its components' signs, as the code makes them.
+use mathlib.Core.Path.{_≡_, refl, sym, subst}
 use mathlib.Core.Bool.{true, false}
-use Prim.Native.Nat.{ℕ, zero, suc, _+_, _*_, _^_, _<_}
+use Prim.Native.Nat.{ℕ, zero, suc, _+_, _*_}
 use native.Mathlib.Omega.{arith}
 use borrow.Author.Tests.{ltb-true, ltb-false}
 use lib.Dec.{T}
-use lib.IntN.{ℤ, pos, negsuc, negℤ, natAbs, _-ℤ_, +ℤ-idl}
-use lib.Signed.{ltZ, _≤ℤ_, _<ℤ_}
-use mir.Syntax.{w64}
-use mir.Val.{SFits}
+use lib.IntN.{ℤ, pos, negsuc, natAbs}
+use lib.Signed.{ltZ}
 use Rattle.exact.specs.Angle.{Q}
-use Rattle.exact.proofs.Differences.{split, zs}
 use Rattle.sine.specs.Angle.{first, angle}
-
--- ---- what the machine makes of −z
-pub minus-fits : (z : ℤ) → natAbs z < 2 ^ 63 → SFits w64 (pos 0 -ℤ z)
-minus-fits z = rw (split z) (simp zs (omega arith))
-
-pub minus-up : (z : ℤ) → z <ℤ pos 0 → pos 0 ≤ℤ (pos 0 -ℤ z)
-minus-up z = rw (split z) (simp zs (omega arith))
-
-pub minus-abs : (z : ℤ) → natAbs (pos 0 -ℤ z) ≡ natAbs z
-minus-abs z = ap natAbs (+ℤ-idl (negℤ z)) ∙ same z
-  where
-    same : (z : ℤ) → natAbs (negℤ z) ≡ natAbs z
-    same (pos zero) = refl
-    same (pos (suc n)) = refl
-    same (negsuc n) = refl
 
 -- ---- tests that cannot come out so
 no : false ≡ true → ⊥

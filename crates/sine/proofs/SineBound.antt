@@ -12,13 +12,14 @@ use Rattle.exact.specs.Angle.{Q, turn}
 use Rattle.exact.proofs.Differences.{split, zs}
 use Rattle.sine.specs.Step.{step, promise}
 use Rattle.sine.specs.Polynomial.{arc, whole, cofactor, terms, plus, minus, polyDen, polyNum}
-use Rattle.sine.specs.Sine.{R, entry, sinQuadrant, Sin, polyAt, IsSine}
+use Rattle.sine.specs.Sine.{R, entry, sinQuadrant, Sin, polyAt}
+use Rattle.sine.specs.Promises.{IsSine}
 use Rattle.sine.proofs.Nearest.{Rounds, rounds}
 use Rattle.sine.proofs.Rounding.{Apart, mean-apart, enclosed}
 use Rattle.sine.proofs.Terms.{overs, overs-bound, terms-chord, overs-le, minus-le-plus}
 use Rattle.sine.proofs.Quadrant.{mix, sin-at, placed}
 use Rattle.sine.proofs.Turned.{on-turn}
-use Rattle.sine.proofs.Monotony.{sin-range}
+use Rattle.sine.proofs.Monotonicity.{sin-range}
 
 -- ---- on 0..Q
 

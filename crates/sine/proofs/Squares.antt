@@ -2,7 +2,7 @@
 -- a mean is at most the mean of the squares (`convex`), and short of it by at most a quarter of the squared difference (`concave`): so S² + C² is enclosed by
 -- what holds at the chord's ends, (e, f′) and (e′, f), and the roundings (`above`, `below`).
 use mathlib.Core.Path.{_≡_, ap}
-use Prim.Native.Nat.{ℕ, suc, _+_, _*_, _≤_, _<_}
+use Prim.Native.Nat.{ℕ, _+_, _*_, _≤_, _<_}
 use native.Mathlib.Nat.{mul-le-mul, mul-le-mul-left, mul-le-mul-right, le-of-suc-le-suc, le-of-mul-le-mul-left, lt-of-mul-lt-mul-left, mul-pos}
 use native.Mathlib.Omega.{arith}
 use Rattle.sine.proofs.Nearest.{Rounds}

@@ -1,14 +1,13 @@
 -- Document 01, "The sine": the table, Sin and Cos, and P over the whole turn. An angle is reduced, in units of 0.0001 second of arc.
 -- Assumes nothing.
-use mathlib.Core.Path.{_≡_}
 use mathlib.Core.Bool.{cond}
 use mathlib.Core.List.{List, [], _∷_}
-use Prim.Native.Nat.{ℕ, zero, suc, _+_, _-_, _*_, _/_, _%_, _≤_}
+use Prim.Native.Nat.{ℕ, zero, suc, _+_, _-_, _*_, _/_, _%_}
 use lib.Dec.{leb, ltb}
-use lib.IntN.{ℤ, pos, negℤ, natAbs, _-ℤ_, _*ℤ_}
+use lib.IntN.{ℤ, pos, negℤ}
 use Rattle.exact.specs.Division.{nearestℕ}
 use Rattle.exact.specs.Angle.{Q, reduced}
-use Rattle.sine.specs.Step.{step, promise}
+use Rattle.sine.specs.Step.{step}
 use Rattle.sine.specs.Polynomial.{polyNum, polyDen}
 
 -- 01's R: what a sine of one is scaled to
@@ -32,12 +31,12 @@ unfoldable pub entries : List ℕ
 entries = entriesFrom 0 count
 
 -- the share of r units of a step on the way from `low` to `high`, to nearest
-abbrev pub between : ℕ → ℕ → ℕ → ℕ
-between low high r = nearestℕ (low * (step - r) + high * r) step
+abbrev pub interpolated : ℕ → ℕ → ℕ → ℕ
+interpolated low high r = nearestℕ (low * (step - r) + high * r) step
 
 -- Sin on 0..Q: "For a = 3,000,000·n + r with r below 3,000,000, Sin(a) is nearest((entry n·(3,000,000 − r) + entry n+1·r)/3,000,000); at Q it is R."
 unfoldable pub sinQuadrant : ℕ → ℕ
-sinQuadrant a = cond (ltb a Q) (between (entry (a / step)) (entry (a / step + 1)) (a % step)) R
+sinQuadrant a = cond (ltb a Q) (interpolated (entry (a / step)) (entry (a / step + 1)) (a % step)) R
 
 -- f, given on 0..Q, on the first half turn: "From Q to 2Q, Sin(a) = Sin(2Q − a)"
 abbrev pub half : (ℕ → ℕ) → ℕ → ℕ
@@ -57,22 +56,3 @@ polyAt a = turned polyNum a
 -- "Cos(a) = Sin(a + Q)"
 unfoldable pub Cos : ℕ → ℤ
 Cos a = Sin (reduced (pos (a + Q)))
-
--- What is owed of a number r that is given out as the sine of a: it is Sin a, at most R in magnitude, and, demand 3, |r − R·P(a)| ≤ promise, both sides
--- times polyDen.
-pub record IsSine (a : ℕ) (r : ℤ) : Type 0 where
-  pub value : r ≡ Sin a
-  pub range : natAbs r ≤ R
-  pub near : natAbs (r *ℤ pos polyDen -ℤ pos R *ℤ polyAt a) ≤ promise * polyDen
-
--- How far Sin² + Cos² may be from R²
-abbrev pub circleLeast : ℕ
-circleLeast = (R - promise) * (R - promise)
-
-abbrev pub circleMost : ℕ
-circleMost = R * (R + 3)
-
--- What is owed of a sine and a cosine of one angle, without their signs: together they lie near the circle of radius R
-pub record OnCircle (x y : ℕ) : Type 0 where
-  pub least : circleLeast ≤ x * x + y * y
-  pub most : x * x + y * y ≤ circleMost

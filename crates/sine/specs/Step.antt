@@ -7,7 +7,7 @@ use Prim.Native.Nat.{ℕ}
 abbrev pub step : ℕ
 step = 3_000_000
 
--- demand 3: "the table sine, scaled to 1,000,000,000, lies within 700 of the sine polynomial". The farthest that any angle is from it is 265.2; the law of
+-- demand 3: "the table sine, scaled to 1,000,000,000, lies within 700 of the sine polynomial". The farthest angle is about 265.2 from it, so 265 is false; the law of
 -- proofs/SineBound.antt would prove 438 and nothing less.
 abbrev pub promise : ℕ
 promise = 700

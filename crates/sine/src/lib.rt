@@ -9,7 +9,8 @@ ghost use Prim.Native.Nat.{_+_, _-_, _*_, _≤_, _<_, _^_};
 ghost use lib.IntN.{natAbs};
 ghost use Rattle.exact.specs.Angle.{Q, turn};
 ghost use Rattle.sine.specs.Step.{step};
-ghost use Rattle.sine.specs.Sine.{R, entry, count, entries, between, half, sinQuadrant, Cos, IsSine};
+ghost use Rattle.sine.specs.Sine.{R, entry, count, entries, interpolated, half, sinQuadrant, Cos};
+ghost use Rattle.sine.specs.Promises.{IsSine};
 ghost use Rattle.sine.specs.Angle.{passes, first, angle as angleOf};
 use entries::STEP;
 pub use entries::SineTable;
@@ -38,7 +39,7 @@ fn wide(x: u32) -> u64
 // The number at r units of a step from low to high, to nearest.
 fn interpolate(low: u64, high: u64, r: u64) -> u64
     requires { ⌜ (low ≤ R) × (high ≤ R) × (r ≤ step) ⌝ }
-    ensures { λ z. ⌜ z ≡ between low high r ⌝ }
+    ensures { λ z. ⌜ z ≡ interpolated low high r ⌝ }
 {
     (2 * (low * (STEP - r) + high * r) + STEP) / (2 * STEP)
 }
@@ -118,21 +119,13 @@ fn search(t: &SineTable, x: u64, y: u64) -> u64
     low
 }
 
-// A number without its sign.
-fn magnitude(x: i64) -> u64
-    requires { ⌜ natAbs x ≤ 2 ^ 34 ⌝ }
-    ensures { λ r. ⌜ (r ≡ natAbs x) × (r ≤ 2 ^ 34) ⌝ }
-{
-    if x < 0 { (-x) as u64 } else { x as u64 }
-}
-
 // The angle of the vector (x, y), reduced: by the signs of its components, a search in the first quadrant and a turn by quarters.
 pub fn angle(t: &SineTable, x: i64, y: i64) -> u64
     requires { ⌜ (now t ≡ entries) × (natAbs x ≤ 2 ^ 34) × (natAbs y ≤ 2 ^ 34) ⌝ }
     ensures { λ r. ⌜ (r ≡ angleOf x y) × (r < turn) ⌝ }
 {
-    let p = magnitude(x);
-    let q = magnitude(y);
+    let p = exact::magnitude(x);
+    let q = exact::magnitude(y);
     if x < 0 {
         if 0 < y {
             QUADRANT + search(t, q, p)

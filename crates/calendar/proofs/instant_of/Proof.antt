@@ -5,19 +5,18 @@ use Prim.Native.Nat.{_≤_}
 use native.Mathlib.Omega.{arith}
 use borrow.Author.Needs.{needs}
 use borrow.Author.Tests.{not-true, not-false}
-use lib.IntN.{ℤ, pos, negsuc, natAbs}
-use lib.Signed.{_≤ℤ_}
+use lib.IntN.{natAbs}
 use mir.Facts.{toZ-ofZ}
 use mir.Syntax.{w64}
 use mir.Val.{SFits}
-use Rattle.exact.proofs.Differences.{split, zs}
-use Rattle.exact.proofs.Machine.{ok-fits, between-low, between-high}
+use Rattle.exact.proofs.Machine.{ok-fits}
 use Rattle.calendar.specs.Date.{dayCount, isDate, dayOf, DayInRange}
 use Rattle.calendar.specs.Time.{isTime, isDut1, dayMillisecond, sinceNoon, instant, millionths, clockOf, ClockInRange, accepted, answer}
 use Rattle.calendar.specs.declared.CivilTime.{CivilTime}
 use Rattle.calendar.specs.declared.Day.the-variants.{Counted}
 use Rattle.calendar.specs.declared.Clock.the-variants.{Millisecond}
 use Rattle.calendar.proofs.Answers.{no-date, a-date, no-time, a-time}
+use Rattle.calendar.proofs.AcceptedRange.{dut1-le}
 use Rattle.calendar.proofs.instant_of.Statement.{statement}
 use Rattle.calendar.proofs.instant_of.Tie as tie
 
@@ -143,11 +142,7 @@ module _ (c : tie.Else1) where
   dut1-in = sym (dut1-test (c .before)) ∙ not-false _ (c .if1 .left)
 
   dut1-small : natAbs (u (c .before) .dut1) ≤ 900
-  unfolding isDut1
-  dut1-small = go (u (c .before) .dut1) (between-low _ _ _ dut1-in) (between-high _ _ _ dut1-in)
-    where
-      go : (z : ℤ) → negsuc 899 ≤ℤ z → z ≤ℤ pos 900 → natAbs z ≤ 900
-      go z = rw (split z) (simp zs (omega arith))
+  dut1-small = dut1-le (u (c .before) .dut1) dut1-in
 
 since-1900-requires : tie.Need-since-1900-requires
 since-1900-requires c κs =

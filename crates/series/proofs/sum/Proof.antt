@@ -14,7 +14,7 @@ use mir.Syntax.{w64}
 use mir.Val.{SFits, ofZ, toZ}
 use Rattle.exact.proofs.Machine.{held, held-is, ok-fits, fits-le}
 use Rattle.sine.specs.Sine.{R, Sin}
-use Rattle.sine.proofs.Monotony.{sin-range}
+use Rattle.sine.proofs.Monotonicity.{sin-range}
 use Rattle.series.specs.Term.{value, termOf}
 use Rattle.series.specs.Sum.{total, weights, termsOf}
 use Rattle.series.proofs.Sums.{total-more, total-le, weights-take, small-at}

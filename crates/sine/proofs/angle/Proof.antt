@@ -1,58 +1,20 @@
 -- `sine::angle` meets its contract, branch by branch.
 use mathlib.Core.Path.{_≡_, sym, ap, _∙_}
-use Prim.Native.Nat.{ℕ, _+_, _*_}
+use Prim.Native.Nat.{ℕ, _+_, _*_, _^_, _≤_}
 use native.Mathlib.Omega.{arith}
 use lib.IntN.{ℤ, natAbs}
 use mir.Syntax.{w64}
 use mir.Val.{SFits}
 use mir.Facts.{toZ-ofZ}
 use Rattle.exact.specs.Angle.{Q}
+use Rattle.sine.specs.Sine.{entries}
 use Rattle.sine.specs.Angle.{first}
 use Rattle.sine.proofs.Signs.{left-up, left-down, right-down, right-up, straight-up, nowhere}
 use borrow.Author.Needs.{needs}
 use Rattle.sine.proofs.angle.Statement.{statement}
 use Rattle.sine.proofs.angle.Tie as tie
 
-magnitude-requires : tie.Need-magnitude-requires
-magnitude-requires c κs = search needs
-
-magnitude-requires-2 : tie.Need-magnitude-requires-2
-magnitude-requires-2 c κs = search needs
-
-search-requires : tie.Need-search-requires
-search-requires c κs = search needs
-
-add-result : tie.Need-add-result
-add-result c = search needs
-
-mul-result : tie.Need-mul-result
-mul-result c = search needs
-
-search-requires-2 : tie.Need-search-requires-2
-search-requires-2 c κs = search needs
-
-add-result-2 : tie.Need-add-result-2
-add-result-2 c = search needs
-
-mul-result-2 : tie.Need-mul-result-2
-mul-result-2 c = search needs
-
-search-requires-3 : tie.Need-search-requires-3
-search-requires-3 c κs = search needs
-
-add-result-3 : tie.Need-add-result-3
-add-result-3 c = search needs
-
-search-requires-4 : tie.Need-search-requires-4
-search-requires-4 c κs = search needs
-
-search-requires-5 : tie.Need-search-requires-5
-search-requires-5 c κs = search needs
-
-add-result-4 : tie.Need-add-result-4
-add-result-4 c = search needs
-
--- the components, that they fit, and that p and q are their magnitudes
+-- the components, that they fit, that p and q are their magnitudes, and that these are in reach of the search
 module _ (c : tie.After-magnitude2) where
   abbrev x : ℤ
   x = c .before .before .args .x
@@ -67,10 +29,58 @@ module _ (c : tie.After-magnitude2) where
   y-fits = c .before .before .fits .y
 
   p-is : c .before .magnitude .result ≡ natAbs x
-  p-is = c .before .magnitude .ensures .0 ∙ ap natAbs (toZ-ofZ x-fits)
+  p-is = c .before .magnitude .ensures ∙ ap natAbs (toZ-ofZ x-fits)
 
   q-is : c .magnitude2 .result ≡ natAbs y
-  q-is = c .magnitude2 .ensures .0 ∙ ap natAbs (toZ-ofZ y-fits)
+  q-is = c .magnitude2 .ensures ∙ ap natAbs (toZ-ofZ y-fits)
+
+  p-le : c .before .magnitude .result ≤ 2 ^ 34
+  p-le = rw p-is (c .before .before .pre .1)
+
+  q-le : c .magnitude2 .result ≤ 2 ^ 34
+  q-le = rw q-is (c .before .before .pre .2)
+
+  lent : c .before .before .args .t .now ≡ entries
+  lent = c .before .before .pre .0
+
+magnitude-requires : tie.Need-magnitude-requires
+magnitude-requires c κs = search needs
+
+magnitude-requires-2 : tie.Need-magnitude-requires-2
+magnitude-requires-2 c κs = search needs
+
+search-requires : tie.Need-search-requires
+search-requires c κs = let m = c .before .before in let p = p-le m in let q = q-le m in (lent m, omega arith, omega arith)
+
+add-result : tie.Need-add-result
+add-result c = search needs
+
+mul-result : tie.Need-mul-result
+mul-result c = search needs
+
+search-requires-2 : tie.Need-search-requires-2
+search-requires-2 c κs = let m = c .before .before in let p = p-le m in let q = q-le m in (lent m, omega arith, omega arith)
+
+add-result-2 : tie.Need-add-result-2
+add-result-2 c = search needs
+
+mul-result-2 : tie.Need-mul-result-2
+mul-result-2 c = search needs
+
+search-requires-3 : tie.Need-search-requires-3
+search-requires-3 c κs = let m = c .before .before in let p = p-le m in let q = q-le m in (lent m, omega arith, omega arith)
+
+add-result-3 : tie.Need-add-result-3
+add-result-3 c = search needs
+
+search-requires-4 : tie.Need-search-requires-4
+search-requires-4 c κs = let m = c .before .before .before in let p = p-le m in let q = q-le m in (lent m, omega arith, omega arith)
+
+search-requires-5 : tie.Need-search-requires-5
+search-requires-5 c κs = let m = c .before .before .before .before in let p = p-le m in let q = q-le m in (lent m, omega arith, omega arith)
+
+add-result-4 : tie.Need-add-result-4
+add-result-4 c = search needs
 
 returns : tie.Need-returns
 returns c =

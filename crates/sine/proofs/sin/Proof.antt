@@ -4,14 +4,18 @@ use Prim.Native.Nat.{ℕ, _^_, _<_}
 use native.Mathlib.Omega.{arith}
 use borrow.Author.Needs.{needs}
 use borrow.Author.Tests.{le-leb, lt-leb}
-use lib.IntN.{ℤ, pos, negℤ, _-ℤ_, +ℤ-idl}
+use lib.IntN.{ℤ, pos, negℤ, natAbs, _-ℤ_, +ℤ-idl}
 use mir.Syntax.{w64}
+use mir.Val.{SFits}
 use mir.Facts.{toZ-pos, toZ-ofZ}
+use Rattle.exact.proofs.Differences.{split, zs}
 use Rattle.sine.specs.Sine.{Sin}
 use Rattle.sine.proofs.SineBound.{is-sine}
-use Rattle.sine.proofs.Signs.{minus-fits}
 use Rattle.sine.proofs.sin.Statement.{statement}
 use Rattle.sine.proofs.sin.Tie as tie
+
+minus-fits : (z : ℤ) → natAbs z < 2 ^ 63 → SFits w64 (pos 0 -ℤ z)
+minus-fits z = rw (split z) (simp zs (omega arith))
 
 mul-if1 : tie.Need-mul-if1
 mul-if1 c = search needs

@@ -1,12 +1,12 @@
 -- `sine::sin_quadrant` meets its contract.
-use mathlib.Core.Path.{_≡_, refl, _∙_}
-use Prim.Native.Nat.{_+_, _/_, _%_}
+use mathlib.Core.Path.{_≡_, _∙_}
+use Prim.Native.Nat.{_%_}
 use native.Mathlib.Omega.{arith}
 use borrow.Author.Needs.{needs}
 use borrow.Author.Tests.{lt-ltb, le-ltb}
 use Rattle.sine.specs.Step.{step}
-use Rattle.sine.specs.Sine.{entry, between, sinQuadrant}
-use Rattle.sine.proofs.Monotony.{sin-le}
+use Rattle.sine.specs.Sine.{interpolated, sinQuadrant}
+use Rattle.sine.proofs.Monotonicity.{sin-le}
 use Rattle.sine.proofs.sin_quadrant.Statement.{statement}
 use Rattle.sine.proofs.sin_quadrant.Tie as tie
 
@@ -29,7 +29,7 @@ returns c =
     let low = c .before .before .entry-at .ensures .0 in
     let high = c .before .entry-at2 .ensures .0 in
     let e : c .interpolate .result ≡ sinQuadrant a =
-    c .interpolate .ensures ∙ (λ i. between (low i) (high i) (a % step)) ∙ simp (lt-ltb _ _ (c .before .before .before .if1 .taken)) in
+    c .interpolate .ensures ∙ (λ i. interpolated (low i) (high i) (a % step)) ∙ simp (lt-ltb _ _ (c .before .before .before .if1 .taken)) in
     (e, rw e (sin-le a (omega arith)))
 
 returns-2 : tie.Need-returns-2

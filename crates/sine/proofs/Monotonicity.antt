@@ -4,7 +4,7 @@ use Prim.Native.Nat.{ℕ, suc, _+_, _-_, _*_, _/_, _%_, _≤_, _<_}
 use native.Mathlib.Nat.{le-refl}
 use native.Mathlib.Omega.{arith}
 use lib.Dec.{lit<, le→leb}
-use lib.IntN.{ℤ, pos, natAbs}
+use lib.IntN.{ℤ, natAbs}
 use lib.Signed.{_≤ℤ_}
 use Rattle.exact.specs.Angle.{Q, turn}
 use Rattle.exact.proofs.Integers.{abs-neg}
@@ -13,7 +13,7 @@ use Rattle.sine.specs.Sine.{R, entry, sinQuadrant, Sin, Cos}
 use Rattle.sine.proofs.Nearest.{nearest-mono}
 use Rattle.sine.proofs.Every.{climbs}
 use Rattle.sine.proofs.Rule.{entry-climbs}
-use Rattle.sine.proofs.Quadrant.{mix, sin-at, sin-top}
+use Rattle.sine.proofs.Quadrant.{sin-at, sin-top}
 use Rattle.sine.proofs.Turned.{on-turn, sin-1, cos-1, folded}
 
 -- one unit further in an interval

@@ -1,0 +1,44 @@
+#!/usr/bin/env python3
+"""sine-table.py [STEP]: writes crates/sine/src/entries.rt from document 01's rule, exactly: entry n is the nearest whole number to R·P(STEP·n).
+The prover tests the file against the same rule, so nothing rests on this script. The step and the promise stand in crates/sine/specs/Step.antt."""
+import os
+import sys
+from math import factorial
+
+Q, R = 3_240_000_000, 1_000_000_000
+ARC, WHOLE = 31_415_926_535_897_932, 6_480_000_000 * 10**16
+DEN = factorial(17) * WHOLE**17
+
+
+def numerator(a):
+    return sum((-1) ** k * (ARC * a) ** m * (factorial(17) // factorial(m)) * WHOLE ** (17 - m) for k, m in enumerate(range(1, 18, 2)))
+
+
+step = int(sys.argv[1]) if len(sys.argv) > 1 else 3_000_000
+table = [(2 * R * numerator(step * n) + DEN) // (2 * DEN) for n in range(Q // step + 1)]
+rows = "".join("    " + "%d,\n" % x for x in table)
+path = os.path.join(os.path.dirname(os.path.abspath(__file__)), "..", "crates", "sine", "src", "entries.rt")
+with open(path, "w") as out:
+    out.write(
+        """// The table of document 01, "The sine": entry n is the nearest whole number to R·P(STEP·n). Written by tools/sine-table.py.
+ghost use mathlib.Core.Path.{_≡_};
+ghost use Rattle.sine.specs.Sine.{entries};
+
+// The table's step in units of 0.0001 second of arc.
+pub const STEP: u64 = %s;
+
+// A sine for each step of a quadrant.
+pub type SineTable = [u32; %d];
+
+const ENTRIES: SineTable = [
+%s];
+
+// The table. It is lent to every function that reads it, since each call of this one builds it anew.
+pub fn table() -> SineTable
+    ensures { λ r. ⌜ r ≡ entries ⌝ }
+{
+    ENTRIES
+}
+"""
+        % (f"{step:_}", len(table), rows)
+    )
