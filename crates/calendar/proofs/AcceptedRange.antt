@@ -115,8 +115,8 @@ accepted-range t n q e =
         → dayMillisecond (t .hour) (t .minute) (t .millisecond) ≤ 86400999 → natAbs (t .dut1) ≤ 900 → InstantRange (instant t)
     within t d m u = unfold instant in noon-range _ _ (t .dut1) (d .0) (d .1) m u
 
+pub millionths-le : (q : ℤ) → MillionthsRange q → natAbs q ≤ 1500000
+millionths-le q = rw (split q) (simp zs (omega arith))
+
 pub accepted-millionths : (t : CivilTime) (n q : ℤ) → answer t ≡ accepted n q → natAbs q ≤ 1500000
-accepted-millionths t n q e = go q (accepted-range t n q e .1)
-  where
-    go : (q : ℤ) → MillionthsRange q → natAbs q ≤ 1500000
-    go q = rw (split q) (simp zs (omega arith))
+accepted-millionths t n q e = millionths-le q (accepted-range t n q e .1)

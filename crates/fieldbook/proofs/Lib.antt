@@ -1,0 +1,2 @@
+pub mod Skies
+pub mod Instants

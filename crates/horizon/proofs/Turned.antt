@@ -1,0 +1,25 @@
+-- Up, east and north are the components of a direction turned by R2(−φ).
+use mathlib.Core.Path.{_≡_, refl, sym, ap, ap₂, _∙_}
+use mathlib.Core.List.{List, [], _∷_}
+use native.Mathlib.Omega.{arith}
+use lib.IntN.{ℤ, pos, negℤ, _+ℤ_, _-ℤ_, _*ℤ_}
+use lib.ListN.{length}
+use Rattle.exact.specs.Division.{nearest}
+use Rattle.exact.proofs.Differences.{split, zs}
+use Rattle.sine.specs.Sine.{R}
+use Rattle.rotation.specs.Rotation.{turned, sinOf, cosOf, rotation2}
+use Rattle.rotation.proofs.Turned.{turned-2, sin-neg, cos-neg, three}
+use Rattle.horizon.specs.Horizon.{at, up, north, horizon}
+
+pub horizon-is : (φ : ℤ) (m : List ℤ) → length m ≡ 3 → turned (rotation2 (negℤ φ)) m ≡ horizon φ m
+unfolding horizon up north
+horizon-is φ m l =
+    ap (turned (rotation2 (negℤ φ))) (three (pos 0) m l) ∙ turned-2 (negℤ φ) (at m 0) (at m 1) (at m 2)
+    ∙ rw (sin-neg φ, cos-neg φ)
+    (ap₂ (λ (u n : ℤ). nearest u R ∷ at m 1 ∷ nearest n R ∷ []) (up-is (cosOf φ) (sinOf φ) (at m 0) (at m 2)) (north-is (cosOf φ) (sinOf φ) (at m 0) (at m 2)))
+  where
+    up-is : (c s x z : ℤ) → negℤ (negℤ s) *ℤ z +ℤ c *ℤ x ≡ x *ℤ c +ℤ z *ℤ s
+    up-is c s x z = rw (split c, split s, split x, split z) (simp zs (omega arith))
+
+    north-is : (c s x z : ℤ) → c *ℤ z +ℤ negℤ s *ℤ x ≡ z *ℤ c -ℤ x *ℤ s
+    north-is c s x z = rw (split c, split s, split x, split z) (simp zs (omega arith))

@@ -1,0 +1,36 @@
+-- `polaris::direction` meets its contract.
+use mathlib.Core.Path.{_≡_}
+use native.Mathlib.Omega.{arith}
+use borrow.Author.Needs.{needs}
+use mir.Facts.{toZ-ofZ}
+use Rattle.exact.proofs.Machine.{ok-fits}
+use Rattle.polaris.specs.Apparent.{direction}
+use Rattle.polaris.proofs.direction.Statement.{statement}
+use Rattle.polaris.proofs.direction.Tie as tie
+
+tropical-millionths-requires : tie.Need-tropical-millionths-requires
+tropical-millionths-requires c κs = search needs
+
+place-of-date-requires : tie.Need-place-of-date-requires
+place-of-date-requires c κs = search needs
+
+aberration-requires : tie.Need-aberration-requires
+aberration-requires c κs = search needs
+
+plus-requires : tie.Need-plus-requires
+plus-requires c κs = search needs
+
+returns : tie.Need-returns
+unfolding direction
+returns c =
+    let b = c .before in
+    let a = b .before in
+    let p = a .before .tropical-millionths in
+    let f = a .before .before .fits in
+    let millionths = simp (toZ-ofZ, f .n) at (p .ensures .0) in
+    let place = simp (toZ-ofZ, ok-fits (p .result) (p .ok), f .obliquity, f .nutation, f .epsilon) at (a .place-of-date .ensures .0) in
+    let aberration = simp (toZ-ofZ, f .epsilon) at (b .aberration .ensures .0) in
+    (cc (c .plus .ensures .0, millionths, place, aberration), omega (arith, c .plus .ensures .1, a .place-of-date .ensures .1))
+
+pub direction-spec : {M : Type 1} → statement M
+direction-spec = tie.close (tie.spec tropical-millionths-requires place-of-date-requires aberration-requires plus-requires returns)

@@ -1,0 +1,20 @@
+-- `polaris::precession_theta` meets its contract.
+use native.Mathlib.Omega.{arith}
+use borrow.Author.Needs.{needs}
+use mir.Facts.{toZ-ofZ}
+use Rattle.exact.proofs.Machine.{ok-fits}
+use Rattle.polaris.specs.Apparent.{precessionTheta}
+use Rattle.polaris.proofs.precession_theta.Statement.{statement}
+use Rattle.polaris.proofs.precession_theta.Tie as tie
+
+quadratic-requires : tie.Need-quadratic-requires
+quadratic-requires c κs = search needs
+
+returns : tie.Need-returns
+unfolding precessionTheta
+returns c =
+    let e = simp (toZ-ofZ, c .before .fits .p) at (c .quadratic .ensures) in
+    simp (toZ-ofZ, ok-fits (c .quadratic .result) (c .quadratic .ok)) (e .0, omega (arith, e .1))
+
+pub precession-theta-spec : {M : Type 1} → statement M
+precession-theta-spec = tie.close (tie.spec quadratic-requires returns)

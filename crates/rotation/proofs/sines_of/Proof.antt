@@ -1,0 +1,35 @@
+-- `rotation::sines_of` meets its contract.
+use mathlib.Core.Path.{ap, _∙_}
+use native.Mathlib.Omega.{arith}
+use borrow.Author.Needs.{needs}
+use lib.IntN.{negℤ}
+use mir.Facts.{toZ-ofZ}
+use Rattle.exact.proofs.Machine.{ok-fits}
+use Rattle.sine.specs.Sine.{Sin, Cos}
+use Rattle.rotation.proofs.Signed.{negated}
+use Rattle.rotation.proofs.sines_of.Statement.{statement}
+use Rattle.rotation.proofs.sines_of.Tie as tie
+
+reduced-requires : tie.Need-reduced-requires
+reduced-requires c κs = search needs
+
+sin-requires : tie.Need-sin-requires
+sin-requires c κs = search needs
+
+cos-requires : tie.Need-cos-requires
+cos-requires c κs = search needs
+
+sub-t6 : tie.Need-sub-t6
+sub-t6 c = let s = c .before .sin in simp (toZ-ofZ, ok-fits (s .result) (s .ok)) (negated (s .result) (omega (arith, s .ensures .range)) .0)
+
+returns : tie.Need-returns
+returns c =
+    let s = c .before .sin in
+    let b = c .before .before in
+    let e = simp (toZ-ofZ, b .before .fits .a) at (b .reduced .ensures .0) in
+    let m = negated (s .result) (omega (arith, s .ensures .range)) in
+    simp (toZ-ofZ, ok-fits (s .result) (s .ok), ok-fits (c .cos .result) (c .cos .ok), m .0)
+    (c .cos .ensures .0 ∙ ap Cos e, s .ensures .value ∙ ap Sin e, m .1 ∙ ap negℤ (s .ensures .value ∙ ap Sin e))
+
+pub sines-of-spec : {M : Type 1} → statement M
+sines-of-spec = tie.close (tie.spec reduced-requires sin-requires cos-requires sub-t6 returns)
