@@ -14,7 +14,6 @@ use Rattle.sine.specs.Sine.{R}
 use Rattle.sine.specs.Angle.{angle}
 use Rattle.rotation.specs.Rotation.{turned, sinOf, cosOf, rotation3}
 use Rattle.rotation.specs.Length.{componentMost}
-use Rattle.horizon.specs.declared.Angles.{Angles}
 use Rattle.horizon.specs.declared.Sighting.{Sighting}
 use Rattle.horizon.specs.declared.Sighting.the-variants.{Seen, BelowHorizon, NearZenith}
 

@@ -1,8 +1,7 @@
 -- Laws of the definitions: the catalogue's place is a direction in the plane of the first and third axes, turned by R3(−α); z by `quadratic`; a sum of
 -- directions by its components.
-use mathlib.Core.Path.{_≡_, refl, sym, ap, ap₂, _∙_}
+use mathlib.Core.Path.{_≡_, sym, ap, ap₂, _∙_}
 use mathlib.Core.List.{List, [], _∷_}
-use Prim.Native.Nat.{ℕ}
 use native.Mathlib.Omega.{arith}
 use lib.IntN.{ℤ, pos, negℤ, _+ℤ_, _*ℤ_}
 use lib.ListN.{length, getD}
@@ -10,7 +9,7 @@ use Rattle.exact.specs.Division.{floorDiv, nearest}
 use Rattle.exact.proofs.Differences.{split, zs}
 use Rattle.sine.specs.Sine.{R}
 use Rattle.rotation.specs.Rotation.{turned, sinOf, cosOf, rotation3}
-use Rattle.rotation.proofs.Turned.{turned-3, sin-neg, cos-neg, three}
+use Rattle.rotation.proofs.Turned.{turned-3, sin-neg, cos-neg, three, zero-*, +-zero}
 use Rattle.polaris.specs.Place.{quadratic, place}
 use Rattle.polaris.specs.Apparent.{precessionZeta, precessionZ, plus}
 
@@ -31,12 +30,6 @@ pub z-is : (p : ℤ) → quadratic (precessionZeta p) (pos 0) (pos 7_910) 1_000_
 unfolding precessionZ quadratic floorDiv
 z-is p = go (precessionZeta p) p (floorDiv (pos 7_910 *ℤ (p *ℤ p)) 1_000_000_000_000)
   where
-    zero-* : (x : ℤ) → pos 0 *ℤ x ≡ pos 0
-    zero-* x = rw (split x) (simp zs (omega arith))
-
-    +-zero : (x : ℤ) → x +ℤ pos 0 ≡ x
-    +-zero x = rw (split x) (simp zs (omega arith))
-
     go : (a p s : ℤ) → a +ℤ floorDiv (pos 0 *ℤ p) 1_000_000 +ℤ s ≡ a +ℤ s
     go a p s = rw (zero-* p) (ap (λ (x : ℤ). x +ℤ s) (+-zero a))
 

@@ -8,7 +8,7 @@ ghost use Rattle.exact.specs.Angle.{turn};
 ghost use Rattle.exact.specs.Division.{nearest};
 ghost use Rattle.sine.specs.Sine.{R, entries};
 ghost use Rattle.sine.specs.Promises.{circleMost};
-ghost use Rattle.rotation.specs.Length.{squaredLength, reach, growth, componentMost, Bounded};
+ghost use Rattle.rotation.specs.Length.{squaredLength, reach, growth, Bounded};
 ghost use Rattle.calendar.specs.Time.{InstantRange};
 ghost use Rattle.polaris.specs.Place.{tropicalMillionths, quadratic, rightAscension, declination, catalogue};
 ghost use Rattle.polaris.specs.Apparent.{precessionZeta, precessionZ, precessionTheta, precessed, nutated, aberration, aberrationMost, plus, placeOfDate, direction, directionMost};

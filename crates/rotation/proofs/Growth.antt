@@ -1,5 +1,5 @@
 -- ONE BOUND OVER ALL ANGLES AND ALL AXES: a turn enlarges the squared length of a direction by 8·R + 3 at most, where that is at most 2·R². So ten turns in a
--- row, from a direction of length R, leave it shorter than R + 41. It rests on `pythagoras` of the sine: Sin² + Cos² is at most R·(R + 3).
+-- row, from a direction of length R, leave it shorter than R + 40. It rests on `pythagoras` of the sine: Sin² + Cos² is at most R·(R + 3).
 use mathlib.Core.Path.{_≡_, refl, sym, ap, ap₂, _∙_}
 use mathlib.Core.Bool.{Bool, true, false}
 use mathlib.Core.List.{List, [], _∷_}
@@ -13,14 +13,13 @@ use lib.ListN.{length, getD}
 use Rattle.exact.specs.Division.{nearest}
 use Rattle.exact.proofs.Differences.{split, zs, abs-dif}
 use Rattle.exact.proofs.Division.{Within, nearest-error}
-use Rattle.exact.proofs.Integers.{abs-*}
 use Rattle.exact.proofs.Ring.{E, v, _⊕_, _⊗_, neg, solve}
 use Rattle.exact.proofs.Turn.{reduced-lt}
 use Rattle.exact.specs.Angle.{turn, reduced}
 use Rattle.sine.specs.Sine.{R, Sin, Cos}
 use Rattle.sine.specs.Promises.{circleMost}
 use Rattle.sine.proofs.Pythagoras.{pythagoras}
-use Rattle.rotation.specs.Rotation.{turned, sinOf, cosOf, rotation1, rotation2, rotation3}
+use Rattle.rotation.specs.Rotation.{turned, sinOf, cosOf}
 use Rattle.rotation.specs.Length.{squaredLength, Rotation, first, second, third, reach, growth}
 use Rattle.rotation.proofs.Turned.{along, across, turned-1, turned-2, turned-3, three}
 

@@ -2,7 +2,6 @@
 -- (y, z) for R1, (z, x) for R2 and (x, y) for R3.
 use mathlib.Core.Path.{_≡_, refl, sym, ap, ap₂, _∙_}
 use mathlib.Core.List.{List, [], _∷_}
-use Prim.Native.Nat.{ℕ}
 use native.Mathlib.Omega.{arith}
 use lib.Dec.{lit<}
 use lib.IntN.{ℤ, pos, negℤ, _+ℤ_, _*ℤ_}
@@ -25,13 +24,13 @@ abbrev pub across : ℤ → ℤ → ℤ → ℤ → ℤ
 across c s u v = nearest (negℤ s *ℤ u +ℤ c *ℤ v) R
 
 -- ---- sums with zeros in them
-zero-* : (x : ℤ) → pos 0 *ℤ x ≡ pos 0
+pub zero-* : (x : ℤ) → pos 0 *ℤ x ≡ pos 0
 zero-* x = rw (split x) (simp zs (omega arith))
 
 zero-+ : (x : ℤ) → pos 0 +ℤ x ≡ x
 zero-+ x = rw (split x) (simp zs (omega arith))
 
-+-zero : (x : ℤ) → x +ℤ pos 0 ≡ x
+pub +-zero : (x : ℤ) → x +ℤ pos 0 ≡ x
 +-zero x = rw (split x) (simp zs (omega arith))
 
 swap : (x y : ℤ) → nearest (x +ℤ y) R ≡ nearest (y +ℤ x) R

@@ -7,7 +7,7 @@ use borrow.Author.Needs.{needs}
 use mir.Facts.{toZ-ofZ}
 use lib.IntN.{natAbs}
 use Rattle.rotation.specs.Length.{componentMost}
-use Rattle.horizon.specs.Horizon.{horizontalSquare, squareMost}
+use Rattle.horizon.specs.Horizon.{horizontalSquare}
 use Rattle.horizon.proofs.horizontal_square.Statement.{statement}
 use Rattle.horizon.proofs.horizontal_square.Tie as tie
 

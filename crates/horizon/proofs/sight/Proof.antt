@@ -1,13 +1,13 @@
 -- `horizon::sight` meets its contract: two turns, and the angles of what they give.
-use mathlib.Core.Path.{_≡_, refl}
-use Prim.Native.Nat.{ℕ, _+_, _≤_}
+use mathlib.Core.Path.{refl}
+use Prim.Native.Nat.{ℕ}
 use native.Mathlib.Omega.{arith}
 use borrow.Author.Needs.{needs}
 use mir.Facts.{toZ-ofZ}
 use mir.Syntax.{w64}
 use mir.Val.{SFits}
 use Rattle.exact.proofs.Machine.{fits-le}
-use Rattle.rotation.specs.Length.{Bounded, squaredLength, reach, componentMost}
+use Rattle.rotation.specs.Length.{Bounded, componentMost}
 use Rattle.rotation.proofs.Sizes.{components-le}
 use Rattle.horizon.specs.Horizon.{at, sighting}
 use Rattle.horizon.proofs.sight.Statement.{statement}

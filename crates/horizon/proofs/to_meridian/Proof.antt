@@ -1,5 +1,5 @@
 -- `horizon::to_meridian` meets its contract: the sidereal time, reduced, and the longitude have a sum that fits.
-use mathlib.Core.Path.{_≡_, ap}
+use mathlib.Core.Path.{_≡_}
 use Prim.Native.Nat.{ℕ, _<_, _^_}
 use native.Mathlib.Omega.{arith}
 use borrow.Author.Needs.{needs}

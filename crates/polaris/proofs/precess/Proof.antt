@@ -4,8 +4,6 @@ use native.Mathlib.Omega.{arith}
 use borrow.Author.Needs.{needs}
 use lib.IntN.{ℤ, negℤ}
 use mir.Facts.{toZ-ofZ}
-use mir.Syntax.{w64}
-use mir.Val.{SFits}
 use Rattle.exact.proofs.Machine.{held, ok-fits}
 use Rattle.rotation.specs.Rotation.{rotation2, rotation3}
 use Rattle.rotation.proofs.Signed.{negated, turn-back}

@@ -1,7 +1,6 @@
 -- `polaris::quadratic` meets its contract, for any coefficients of the sizes stated.
 use mathlib.Core.Path.{_≡_, refl}
 use Prim.Native.Nat.{_+_, _≤_, _^_}
-use native.Mathlib.Omega.{arith}
 use borrow.Author.Needs.{needs}
 use lib.IntN.{ℤ, natAbs, _+ℤ_, _*ℤ_}
 use mir.Facts.{toZ-ofZ}

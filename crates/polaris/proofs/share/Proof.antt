@@ -2,7 +2,6 @@
 use mathlib.Core.Path.{_≡_, refl}
 use Prim.Native.Nat.{_*_, _≤_}
 use native.Mathlib.Omega.{arith}
-use borrow.Author.Needs.{needs}
 use lib.IntN.{natAbs, _*ℤ_}
 use lib.Signed.{ltZ-yes}
 use mir.Facts.{toZ-ofZ}

@@ -1,6 +1,5 @@
 -- `polaris::tropical_millionths` meets its contract.
 use mathlib.Core.Path.{_≡_}
-use native.Mathlib.Omega.{arith}
 use borrow.Author.Needs.{needs}
 use lib.Dec.{lit<}
 use mir.Facts.{toZ-ofZ}

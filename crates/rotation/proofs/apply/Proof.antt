@@ -1,6 +1,6 @@
 -- `rotation::apply` meets its contract: each component is what the two calls ensure, and `Growth` has the length.
 use mathlib.Core.Path.{_≡_, refl, ap, _∙_}
-use mathlib.Core.List.{[], _∷_}
+use mathlib.Core.List.{[]}
 use Prim.Native.Nat.{ℕ}
 use native.Mathlib.Omega.{arith}
 use lib.IntN.{ℤ}
