@@ -18,9 +18,9 @@ pub struct SunNumbers {
     pub obliquity: i64,
     pub nutation: i64,
     pub epsilon: i64,
-    pub sidereal_time: u64,
-    pub centre_longitude: u64,
-    pub longitude: u64,
+    pub sidereal_time: i64,
+    pub centre_longitude: i64,
+    pub longitude: i64,
 }
 
 // They, or the refusal of an instant that is not accepted.
@@ -37,9 +37,9 @@ fn of_arguments(t: &SineTable, arguments: &[i64], n: i64, q: i64) -> SunNumbers
         obliquity: f.obliquity,
         nutation: f.nutation,
         epsilon: f.epsilon,
-        sidereal_time: frame::sidereal_time(t, n, q, f.nutation, f.epsilon),
-        centre_longitude: sun::centre_longitude(t, arguments, q),
-        longitude: sun::apparent_longitude(t, arguments, q, f.nutation),
+        sidereal_time: frame::sidereal_time(t, n, q, f.nutation, f.epsilon) as i64,
+        centre_longitude: sun::centre_longitude(t, arguments, q) as i64,
+        longitude: sun::apparent_longitude(t, arguments, q, f.nutation) as i64,
     }
 }
 

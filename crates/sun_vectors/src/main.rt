@@ -12,11 +12,7 @@ const LINES: u64 = 1_000_000;
 
 fn write_frame(n: SunNumbers) {
     vectors::write_number(n.obliquity);
-    vectors::write_numbers(&[n.nutation, n.epsilon]);
-    vectors::write_space();
-    vectors::write_natural(n.sidereal_time);
-    vectors::write_space();
-    vectors::write_natural(n.centre_longitude);
+    vectors::write_numbers(&[n.nutation, n.epsilon, n.sidereal_time, n.centre_longitude]);
 }
 
 // Answers a line; false at the input's end.
@@ -31,12 +27,11 @@ fn answer(t: &SineTable) -> bool
     match sun_numbers::at(t, fields) {
         Answer::Numbers(n) => {
             if line.count == 7 {
-                vectors::write_natural(n.longitude);
+                vectors::write_number(n.longitude);
             } else {
                 write_frame(n);
                 if fields[9] == 1 {
-                    vectors::write_space();
-                    vectors::write_natural(n.longitude);
+                    vectors::write_numbers(&[n.longitude]);
                 }
             }
         }

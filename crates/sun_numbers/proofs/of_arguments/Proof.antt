@@ -13,8 +13,14 @@ frame-of-requires c κs = search needs
 sidereal-time-requires : tie.Need-sidereal-time-requires
 sidereal-time-requires c κs = search needs
 
+cast-t7 : tie.Need-cast-t7
+cast-t7 c = search needs
+
 centre-longitude-requires : tie.Need-centre-longitude-requires
 centre-longitude-requires c κs = search needs
+
+cast-t9 : tie.Need-cast-t9
+cast-t9 c = search needs
 
 apparent-longitude-requires : tie.Need-apparent-longitude-requires
 apparent-longitude-requires c κs =
@@ -23,6 +29,9 @@ apparent-longitude-requires c κs =
     let f = a .frame-of .ensures in
     let nutation-is = simp (toZ-ofZ, s .fits .q) at (f .nutation) in
     simp (toZ-ofZ, s .fits .q, fits-le (2 ^ 20) (a .frame-of .result .nutation) (f .nutation-size) refl) ((s .pre .0 .0, s .pre .0 .2), (s .pre .1, s .pre .2), (nutation-is, f .nutation-size))
+
+cast-t11 : tie.Need-cast-t11
+cast-t11 c = search needs
 
 returns : tie.Need-returns
 returns c = search needs
@@ -33,6 +42,9 @@ of-arguments-spec =
     (tie.spec
     frame-of-requires
     sidereal-time-requires
+    cast-t7
     centre-longitude-requires
+    cast-t9
     apparent-longitude-requires
+    cast-t11
     returns)
