@@ -1,1 +1,2 @@
 pub mod LongitudeBound
+mod WorkedLongitude
