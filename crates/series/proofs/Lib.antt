@@ -1,3 +1,4 @@
 pub mod Sizes
 pub mod Sums
 pub mod SumBound
+pub mod Cosine
