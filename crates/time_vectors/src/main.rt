@@ -1,5 +1,5 @@
 // Runs the outside vectors of the calendar and of the time arguments. A line of three numbers is a date, and its answer is D or the refusal;
-// a line of seven is an instant, and its answer is the refusal, N and q; a line of ten has its eight arguments too.
+// a line of seven is an instant, and its answer is the refusal, N and q; a line of ten has its eleven arguments too.
 use calendar::CivilTime;
 use calendar::Day;
 use calendar::Instant;
