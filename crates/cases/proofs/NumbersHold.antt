@@ -28,6 +28,40 @@ diagonal = first-is 1 1 1620000001 (lit< tt) refl (λ h. refl)
 
 pub numbers-hold : Hold table
 unfolding leapYear monthLength yearDays monthDays dayCount isDate leapSecondDay lastMillisecond isTime dayMillisecond isDut1 sinceNoon instant millionths answer between floorDiv Sin sinQuadrant entry nearestℕ polyNum polyDen term cofactor arc whole angle
-numbers-hold =
-    (refl, (refl, (refl, (refl, (refl, (refl, (refl, (refl, (refl, (refl, (refl, (refl,
-    (ap pos east, (ap (λ (a : ℕ). pos (Q + a)) east, (ap pos diagonal, tt)))))))))))))))
+numbers-hold = (
+  refl,
+  (
+    refl,
+    (
+      refl,
+      (
+        refl,
+        (
+          refl,
+          (
+            refl,
+            (
+              refl,
+              (
+                refl,
+                (
+                  refl,
+                  (
+                    refl,
+                    (
+                      refl,
+                      (
+                        refl,
+                        (ap pos east, (ap (λ (a : ℕ). pos (Q + a)) east, (ap pos diagonal, tt))),
+                      ),
+                    ),
+                  ),
+                ),
+              ),
+            ),
+          ),
+        ),
+      ),
+    ),
+  ),
+)

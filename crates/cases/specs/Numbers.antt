@@ -22,7 +22,6 @@ abbrev pub midnight : ℕ → ℕ → ℕ → CivilTime
 midnight year month day =
     record { year = pos year; month = pos month; day = pos day; hour = pos 0; minute = pos 0; millisecond = pos 0; dut1 = pos 0 }
 
-
 abbrev pub table : List Row
 table =
     -- D of 1976-01-01; 2000-01-01; 2049-12-31
