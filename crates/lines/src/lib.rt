@@ -1,0 +1,169 @@
+// The bytes of a line: where it ends, its numbers, and the numbers and words of an answer.
+ghost use mathlib.Core.Path.{_≡_};
+ghost use mathlib.Core.List.{[]};
+ghost use Prim.Native.Nat.{_+_, _%_, _^_, _≤_};
+ghost use lib.ListN.{length};
+ghost use Rattle.lines.specs.Numbers.{indexOf, digitsOf, Below, numeralOf, words, numbersBehind, numbersOf, listed};
+ghost use Rattle.lines.specs.Writing.{decimalText, Appends};
+
+// The most numbers that a line of any program has.
+const ROW: usize = 10;
+
+// What digits make.
+pub enum Digits {
+    Value(u64),
+    Other,
+}
+
+// What a word is.
+pub enum Numeral {
+    Number(i64),
+    NoNumber,
+}
+
+// The numbers of a line, the first `count` of the array. A line that is not numbers with one space between has none.
+pub struct Row {
+    pub numbers: [i64; ROW],
+    pub count: usize,
+}
+
+fn wide(b: u8) -> u64
+    ensures { λ r. ⌜ r ≡ b ⌝ }
+{
+    b as u64
+}
+
+// Where a byte first stands, or the length.
+pub fn find(s: &[u8], byte: u8) -> usize
+    ensures { λ r. ⌜ r ≡ indexOf byte (now (s .entry)) ⌝ }
+{
+    let mut i = 0;
+    while i < s.len() {
+        if s[i] == byte {
+            return i;
+        }
+        i += 1;
+    }
+    i
+}
+
+// 1 to `most` digits.
+fn digits_of(s: &[u8], most: usize) -> Digits
+    requires { ⌜ most ≤ 18 ⌝ }
+    ensures { λ r. ⌜ r ≡ digitsOf most (now (s .entry)) ⌝ }
+    ensures { λ r. ⌜ Below (10 ^ 18) r ⌝ }
+{
+    if s.len() < 1 {
+        return Digits::Other;
+    }
+    if most < s.len() {
+        return Digits::Other;
+    }
+    let mut n: u64 = 0;
+    let mut i = 0;
+    while i < s.len() {
+        let c = wide(s[i]);
+        if c < 48 {
+            return Digits::Other;
+        }
+        if 57 < c {
+            return Digits::Other;
+        }
+        n = n * 10 + (c - 48);
+        i += 1;
+    }
+    Digits::Value(n)
+}
+
+// An optional "-" and 1 to `most` digits.
+fn numeral_of(s: &[u8], most: usize) -> Numeral
+    requires { ⌜ most ≤ 18 ⌝ }
+    ensures { λ r. ⌜ r ≡ numeralOf most (now (s .entry)) ⌝ }
+{
+    if s.len() == 0 {
+        return Numeral::NoNumber;
+    }
+    if s[0] == b'-' {
+        let Digits::Value(n) = digits_of(&s[1..], most) else {
+            return Numeral::NoNumber;
+        };
+        return Numeral::Number(0 - n as i64);
+    }
+    let Digits::Value(n) = digits_of(s, most) else {
+        return Numeral::NoNumber;
+    };
+    Numeral::Number(n as i64)
+}
+
+fn empty_row() -> Row
+    ensures { λ r. ⌜ listed r ≡ [] ⌝ }
+{
+    Row {
+        numbers: [0i64; ROW],
+        count: 0,
+    }
+}
+
+// The row with the numbers of a line behind its own.
+fn numbers_behind(row: Row, s: &[u8], most: usize) -> Row
+    requires { ⌜ most ≤ 18 ⌝ }
+    ensures { λ r. ⌜ listed r ≡ numbersBehind (listed row) most (words (now (s .entry))) ⌝ }
+{
+    let k = find(s, b' ');
+    let Numeral::Number(n) = numeral_of(&s[..k], most) else {
+        return empty_row();
+    };
+    let count = row.count;
+    if ROW <= count {
+        return empty_row();
+    }
+    let mut next = row;
+    next.numbers[count] = n;
+    next.count = count + 1;
+    if s.len() <= k {
+        return next;
+    }
+    numbers_behind(next, &s[k + 1..], most)
+}
+
+// The numbers of a line, each an optional "-" and 1 to `most` digits, with one space between.
+pub fn numbers_of(s: &[u8], most: usize) -> Row
+    requires { ⌜ most ≤ 18 ⌝ }
+    ensures { λ r. ⌜ listed r ≡ numbersOf most (now (s .entry)) ⌝ }
+{
+    numbers_behind(empty_row(), s, most)
+}
+
+// The last decimal digit of n, as a byte.
+fn last_digit(n: u64) -> u8
+    ensures { λ r. ⌜ r ≡ 48 + n % 10 ⌝ }
+{
+    b'0' + (n % 10) as u8
+}
+
+// Appends a number in plain decimal, the quotient's digits before the last digit, and returns where it ends.
+pub fn append_decimal(out: &mut [u8], at: usize, n: u64) -> usize
+    requires { ⌜ at + length (decimalText n) ≤ length (now out) ⌝ }
+    ensures { λ r. ⌜ Appends (now (out .entry)) at (decimalText n) (now (out .exit)) r ⌝ }
+{
+    if n < 10 {
+        out[at] = last_digit(n);
+        return at + 1;
+    }
+    let k = append_decimal(out, at, n / 10);
+    out[k] = last_digit(n);
+    k + 1
+}
+
+// Appends bytes, and returns where they end.
+pub fn append_bytes(out: &mut [u8], at: usize, bytes: &[u8]) -> usize
+    requires { ⌜ at + length (now bytes) ≤ length (now out) ⌝ }
+    ensures { λ r. ⌜ Appends (now (out .entry)) at (now (bytes .entry)) (now (out .exit)) r ⌝ }
+{
+    let mut i = 0;
+    while i < bytes.len() {
+        out[at + i] = bytes[i];
+        i += 1;
+    }
+    at + i
+}

@@ -1,0 +1,70 @@
+-- What a line asks, by the numbers of a row and by its first bytes. Assumes nothing.
+use Prim.Native.Nat.{ℕ, suc, _+_, _<_, _≤_}
+use native.Mathlib.Omega.{arith}
+use mathlib.Core.Path.{_≡_, refl, sym, ap, _∙_}
+use mathlib.Core.List.{List, [], _∷_}
+use borrow.Author.Tests.{eq-eqb, ne-eqb}
+use lib.IntN.{ℤ, pos}
+use lib.ListN.{length, take, drop, getD, length-take}
+use lib.Seq.{take-all, getD-take}
+use Rattle.lines.specs.Numbers.{numbersOf, rowLength}
+use Rattle.replies.specs.declared.Command.the-variants.{Hear, Shoot, ShootPlain, Malformed}
+use Rattle.replies.specs.Commands.{nth, fieldCommand, spoken, tenNumbers, plainShot, sessionCommand}
+
+-- by the first n numbers of an array of ten
+module _ (a : List ℤ) (full : length a ≡ rowLength) (n : ℕ) where
+  module _ (c : ℕ) (h : c ≡ 72) where
+    pub hears : n ≡ 2 → Hear (nth a 0) (nth a 1) ≡ spoken c (take n a)
+    hears e =
+        let l = length-take n a in
+        rw (eq-eqb c 72 h, eq-eqb (length (take n a)) 2 (omega arith), getD-take n a 0 (pos 0) (omega arith), getD-take n a 1 (pos 0) (omega arith))
+
+    pub hears-not : (n ≡ 2 → ⊥) → Malformed ≡ spoken c (take n a)
+    hears-not d = let l = length-take n a in rw (eq-eqb c 72 h, ne-eqb (length (take n a)) 2 λ e. d (omega arith))
+
+  module _ (c : ℕ) (h : c ≡ 72 → ⊥) where
+    pub names-field : n ≡ 1 → fieldCommand c (nth a 0) ≡ spoken c (take n a)
+    names-field e =
+        let l = length-take n a in
+        rw (ne-eqb c 72 h, eq-eqb (length (take n a)) 1 (omega arith), getD-take n a 0 (pos 0) (omega arith))
+
+    pub names-none : (n ≡ 1 → ⊥) → Malformed ≡ spoken c (take n a)
+    names-none d = let l = length-take n a in rw (ne-eqb c 72 h, ne-eqb (length (take n a)) 1 λ e. d (omega arith))
+
+  pub shoots : 10 ≤ n → ShootPlain (tenNumbers a) ≡ plainShot (take n a)
+  shoots h = rw (take-all n a (omega arith), eq-eqb (length a) 10 full)
+
+  pub shoots-not : n < 10 → Malformed ≡ plainShot (take n a)
+  shoots-not h = let l = length-take n a in rw (ne-eqb (length (take n a)) 10 λ e. omega arith)
+
+-- by the first two bytes
+pub no-bytes : (l : List ℕ) → length l ≡ 0 → Malformed ≡ sessionCommand l
+no-bytes [] e = refl
+no-bytes (c ∷ l) e = absurd (omega arith)
+
+pub one-letter : (l : List ℕ) → length l ≡ 1 → getD l 0 0 ≡ 83 → Shoot ≡ sessionCommand l
+one-letter [] n e = absurd (omega arith)
+one-letter (c ∷ []) n e = rw (eq-eqb c 83 e)
+one-letter (c ∷ d ∷ l) n e = absurd (omega arith)
+
+pub another-letter : (l : List ℕ) → length l ≡ 1 → (getD l 0 0 ≡ 83 → ⊥) → Malformed ≡ sessionCommand l
+another-letter [] n e = absurd (omega arith)
+another-letter (c ∷ []) n e = rw (ne-eqb c 83 e)
+another-letter (c ∷ d ∷ l) n e = absurd (omega arith)
+
+module _ (l : List ℕ) (some : length l ≡ 0 → ⊥) (more : length l ≡ 1 → ⊥) where
+  pub no-space : (getD l 1 0 ≡ 32 → ⊥) → Malformed ≡ sessionCommand l
+  no-space e = by l some more e
+    where
+      by : (l : List ℕ) → (length l ≡ 0 → ⊥) → (length l ≡ 1 → ⊥) → (getD l 1 0 ≡ 32 → ⊥) → Malformed ≡ sessionCommand l
+      by [] n m e = absurd (n refl)
+      by (c ∷ []) n m e = absurd (m refl)
+      by (c ∷ s ∷ l) n m e = rw (ne-eqb s 32 e)
+
+  pub behind-space : getD l 1 0 ≡ 32 → spoken (getD l 0 0) (numbersOf 9 (drop 2 l)) ≡ sessionCommand l
+  behind-space e = by l some more e
+    where
+      by : (l : List ℕ) → (length l ≡ 0 → ⊥) → (length l ≡ 1 → ⊥) → getD l 1 0 ≡ 32 → spoken (getD l 0 0) (numbersOf 9 (drop 2 l)) ≡ sessionCommand l
+      by [] n m e = absurd (n refl)
+      by (c ∷ []) n m e = absurd (m refl)
+      by (c ∷ s ∷ l) n m e = rw (eq-eqb s 32 e)

@@ -1,0 +1,118 @@
+-- A LINE LONGER THAN 199 BYTES IS MALFORMED, whatever it holds; so the first 200 bytes of a line ask what the whole line asks. Assumes nothing.
+use Prim.Native.Nat.{ℕ, zero, suc, _+_, _*_, _<_, _≤_}
+use native.Mathlib.Omega.{arith}
+use native.Mathlib.Nat.{mul-add, mul-one}
+use mathlib.Core.Path.{_≡_, refl, sym, ap, _∙_}
+use mathlib.Core.Bool.{Bool, true, false, cond}
+use mathlib.Core.Logic.{_⊎_, inl, inr, ⊎-elim}
+use mathlib.Core.List.{List, [], _∷_, _++_}
+use borrow.Author.Tests.{le-ltb, lt-ltb, ne-eqb, leb-true, leb-false}
+use lib.Dec.{eqb, leb, ltb}
+use lib.IntN.{ℤ}
+use lib.ListN.{length, take, length-append}
+use lib.Seq.{take-all, length-take-le}
+use Rattle.lines.specs.declared.Digits.the-variants.{Other}
+use Rattle.lines.specs.declared.Numeral.{Numeral}
+use Rattle.lines.specs.declared.Numeral.the-variants.{Number, NoNumber}
+use Rattle.lines.specs.Numbers.{digitsOf, plus, minus, numeralOf, prefixed, words, rowLength, ifNumber, numbersBehind, numbersOf}
+use Rattle.lines.proofs.Words.{first-word}
+use Rattle.replies.specs.declared.Protocol.{Protocol}
+use Rattle.replies.specs.declared.Protocol.the-variants.{Session, Batch}
+use Rattle.replies.specs.declared.Command.the-variants.{Malformed}
+use Rattle.replies.specs.Commands.{spoken, sessionCommand, commandOf, longestLine}
+
+same : {A : Type 0} (b : Bool) {x y z : A} → x ≡ z → y ≡ z → cond b x y ≡ z
+same true p q = p
+same false p q = q
+
+by-answer : {P : Type 0} (m n : ℕ) (b : Bool) → leb m n ≡ b → (m ≤ n → P) → (n < m → P) → P
+by-answer m n true e p q = p (leb-true m n e)
+by-answer m n false e p q = q (leb-false m n e)
+
+by-order : {P : Type 0} (m n : ℕ) → (m ≤ n → P) → (n < m → P) → P
+by-order m n p q = by-answer m n (leb m n) refl p q
+
+-- a word of more than most + 1 bytes is no number
+long-digits : (most : ℕ) (l : List ℕ) → most < length l → digitsOf most l ≡ Other
+long-digits most l h = rw (le-ltb (length l) 1 (omega arith), lt-ltb most (length l) h)
+
+long-word : (most : ℕ) (l : List ℕ) → suc most < length l → numeralOf most l ≡ NoNumber
+long-word most [] h = refl
+long-word most (c ∷ l) h = same (eqb c 45) (ap minus (long-digits most l (omega arith))) (ap plus (long-digits most (c ∷ l) (omega arith)))
+
+-- the bytes of words, with one more for each
+size : List (List ℕ) → ℕ
+size [] = 0
+size (w ∷ ws) = suc (length w) + size ws
+
+-- (b: whether the first byte is a space)
+size-by : (b : Bool) (c n : ℕ) (w : List ℕ) (ws : List (List ℕ)) → size (w ∷ ws) ≡ n → size (cond b ([] ∷ w ∷ ws) (prefixed c (w ∷ ws))) ≡ suc n
+unfolding size
+size-by true c n w ws e = omega arith
+size-by false c n w ws e = omega arith
+
+size-words : (l : List ℕ) → size (words l) ≡ suc (length l)
+unfolding size words
+size-words [] = omega arith
+size-words (c ∷ l) =
+    let f = first-word l in
+    rw f (size-by (eqb c 32) c (suc (length l)) _ _ (rw f at (size-words l)))
+
+-- each of the numbers that are behind the row took at most most + 2 bytes of the line
+module _ (most : ℕ) where
+  Fit : List (List ℕ) → List ℤ → List ℤ → Type 0
+  Fit ws row all = (all ≡ []) ⊎ (size ws + (most + 2) * length row ≤ (most + 2) * length all)
+
+  one-more : (row : List ℤ) (z : ℤ) → (most + 2) * length (row ++ (z ∷ [])) ≡ (most + 2) * length row + (most + 2)
+  one-more row z = simp length-append (mul-add (most + 2) (length row) 1 ∙ ap (λ (m : ℕ). (most + 2) * length row + m) (mul-one (most + 2)))
+
+  number-length : (w : List ℕ) (z : ℤ) → Number z ≡ numeralOf most w → length w ≤ suc most
+  number-length w z e = by-order (length w) (suc most) (λ h. h) λ h.
+      let n = long-word most w h in
+      absurd (let o : _≡_ {A = ℕ} 0 1 = cc in omega arith)
+
+  fit-room : (b : Bool) (w : List ℕ) (ws : List (List ℕ)) (row all : List ℤ) (z : ℤ) → length w ≤ suc most → Fit ws (row ++ (z ∷ [])) all
+      → Fit (w ∷ ws) row (cond b all [])
+  unfolding Fit size
+  fit-room true w ws row all z h f = ⊎-elim inl (λ k. let o = one-more row z in inr (omega arith)) f
+  fit-room false w ws row all z h f = inl refl
+
+  fit-word : (m : Numeral) (b : Bool) (w : List ℕ) (ws : List (List ℕ)) (row : List ℤ) → m ≡ numeralOf most w
+      → ((z : ℤ) → Fit ws (row ++ (z ∷ [])) (numbersBehind (row ++ (z ∷ [])) most ws))
+      → Fit (w ∷ ws) row (ifNumber m λ z. cond b (numbersBehind (row ++ (z ∷ [])) most ws) [])
+  unfolding Fit
+  fit-word NoNumber b w ws row e f = inl refl
+  fit-word (Number z) b w ws row e f = fit-room b w ws row _ z (number-length w z e) (f z)
+
+  fit : (ws : List (List ℕ)) (row : List ℤ) → Fit ws row (numbersBehind row most ws)
+  unfolding Fit size numbersBehind
+  fit [] row = inr (omega arith)
+  fit (w ∷ ws) row = fit-word (numeralOf most w) (ltb (length row) rowLength) w ws row refl λ z. fit ws (row ++ (z ∷ []))
+
+  -- so a line that is too long for k numbers does not hold k
+  not-so-many : (k : ℕ) (l : List ℕ) → 0 < k → (most + 2) * k ≤ length l → length (numbersOf most l) ≡ k → ⊥
+  unfolding Fit
+  not-so-many k l p h e =
+      let s = size-words l in
+      let m = ap (λ (n : ℕ). (most + 2) * n) e in
+      ⊎-elim (λ n. let o = ap length n in omega arith) (λ f. omega arith) (fit (words l) [])
+
+long-spoken : (c : ℕ) (l : List ℕ) → 21 < length l → spoken c (numbersOf 9 l) ≡ Malformed
+long-spoken c l h =
+    let two = ne-eqb (length (numbersOf 9 l)) 2 (not-so-many 9 2 l (omega arith) (omega arith)) in
+    let one = ne-eqb (length (numbersOf 9 l)) 1 (not-so-many 9 1 l (omega arith) (omega arith)) in
+    same (eqb c 72) (rw two) (rw one)
+
+long-session : (l : List ℕ) → 23 < length l → sessionCommand l ≡ Malformed
+long-session [] h = refl
+long-session (c ∷ []) h = absurd (omega arith)
+long-session (c ∷ s ∷ l) h = same (eqb s 32) (long-spoken c l (omega arith)) refl
+
+pub long-line : (p : Protocol) (l : List ℕ) → longestLine < length l → commandOf p l ≡ Malformed
+long-line Session l h = long-session l (omega arith)
+long-line Batch l h = rw (ne-eqb (length (numbersOf 18 l)) 10 (not-so-many 18 10 l (omega arith) (omega arith)))
+
+pub first-bytes : (p : Protocol) (l : List ℕ) → commandOf p (take (suc longestLine) l) ≡ commandOf p l
+first-bytes p l = by-order (length l) (suc longestLine) (λ h. ap (commandOf p) (take-all (suc longestLine) l h)) λ h.
+    let e = length-take-le (suc longestLine) l (omega arith) in
+    long-line p (take (suc longestLine) l) (omega arith) ∙ sym (long-line p l (omega arith))

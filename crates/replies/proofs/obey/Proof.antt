@@ -1,0 +1,145 @@
+-- `replies::obey` meets its contract. Assumes nothing.
+use mathlib.Core.Path.{_≡_, refl, sym, ap, _∙_}
+use mir.Facts.{toZ-ofZ}
+use mir.Syntax.{w64}
+use mir.Val.{SFits}
+use borrow.Author.Needs.{needs}
+use Rattle.replies.proofs.obey.Statement.{statement}
+use Rattle.replies.proofs.obey.Tie as tie
+
+enum-known-command : tie.Need-enum-known-command
+enum-known-command c = search needs
+
+hear-requires : tie.Need-hear-requires
+hear-requires c κs = search needs
+
+append-outcome-requires : tie.Need-append-outcome-requires
+append-outcome-requires c κs = search needs
+
+enum-known-command-2 : tie.Need-enum-known-command-2
+enum-known-command-2 c = search needs
+
+read-out-requires : tie.Need-read-out-requires
+read-out-requires c κs = search needs
+
+enum-known-command-3 : tie.Need-enum-known-command-3
+enum-known-command-3 c = search needs
+
+confirm-requires : tie.Need-confirm-requires
+confirm-requires c κs = search needs
+
+append-outcome-requires-2 : tie.Need-append-outcome-requires-2
+append-outcome-requires-2 c κs = search needs
+
+enum-told : tie.Need-enum-told
+enum-told c = search needs
+
+shot-from-card-requires : tie.Need-shot-from-card-requires
+shot-from-card-requires c κs = search needs
+
+append-shot-requires : tie.Need-append-shot-requires
+append-shot-requires c κs = search needs
+
+enum-known-command-4 : tie.Need-enum-known-command-4
+enum-known-command-4 c = search needs
+
+shot-requires : tie.Need-shot-requires
+shot-requires c κs = search needs
+
+append-plain-shot-requires : tie.Need-append-plain-shot-requires
+append-plain-shot-requires c κs = search needs
+
+enum-told-2 : tie.Need-enum-told-2
+enum-told-2 c = search needs
+
+append-refusal-requires : tie.Need-append-refusal-requires
+append-refusal-requires c κs = search needs
+
+same-length : tie.Need-same-length
+same-length c = search needs
+
+returns : tie.Need-returns
+returns c =
+    let o = c .before .before .append-outcome in
+    let h = c .before .before .before .before .before in
+    let k = h .before .before in
+    let x : SFits w64 (k .command .given .0 .0) = search needs in
+    let y : SFits w64 (k .command .given .0 .1 .0) = search needs in
+    let e = rw (toZ-ofZ x, toZ-ofZ y) at (h .hear .ensures) in
+    rw (k .command .given .1, ← e) (refl, o .ensures)
+
+same-length-2 : tie.Need-same-length-2
+same-length-2 c = search needs
+
+returns-2 : tie.Need-returns-2
+returns-2 c =
+    let k = c .before .before .before .before .before in
+    let x : SFits w64 (k .command2 .given .0 .0) = search needs in
+    rw (k .command2 .given .1) (rw (toZ-ofZ x) at (c .before .before .read-out .ensures))
+
+same-length-3 : tie.Need-same-length-3
+same-length-3 c = search needs
+
+returns-3 : tie.Need-returns-3
+returns-3 c =
+    let o = c .before .before .append-outcome2 in
+    let h = c .before .before .before .before .before in
+    let k = h .before .before in
+    let x : SFits w64 (k .command3 .given .0 .0) = search needs in
+    let e = rw (toZ-ofZ x) at (h .confirm .ensures) in
+    rw (k .command3 .given .1, ← e) (refl, o .ensures)
+
+same-length-4 : tie.Need-same-length-4
+same-length-4 c = search needs
+
+returns-4 : tie.Need-returns-4
+returns-4 c =
+    let s = c .before .before .before in
+    rw (s .before .before .enum-told .given .1, ← (s .shot-from-card .ensures .0)) (refl, c .before .before .append-shot .ensures)
+
+same-length-5 : tie.Need-same-length-5
+same-length-5 c = search needs
+
+returns-5 : tie.Need-returns-5
+returns-5 c =
+    let s = c .before .before .before in
+    rw (s .before .before .before .command4 .given .1, ← (s .shot .ensures .0)) (refl, c .before .before .append-plain-shot .ensures)
+
+same-length-6 : tie.Need-same-length-6
+same-length-6 c = search needs
+
+returns-6 : tie.Need-returns-6
+returns-6 c = rw (c .before .before .before .before .enum-told2 .given .1) (refl, c .before .before .append-refusal .ensures)
+
+pub obey-spec : {M : Type 1} → statement M
+obey-spec =
+    tie.close
+    (tie.spec
+    enum-known-command
+    hear-requires
+    append-outcome-requires
+    enum-known-command-2
+    read-out-requires
+    enum-known-command-3
+    confirm-requires
+    append-outcome-requires-2
+    enum-told
+    shot-from-card-requires
+    append-shot-requires
+    enum-known-command-4
+    shot-requires
+    append-plain-shot-requires
+    enum-told-2
+    append-refusal-requires
+    same-length
+    returns
+    same-length-2
+    returns-2
+    same-length-3
+    returns-3
+    same-length-4
+    returns-4
+    same-length-5
+    returns-5
+    same-length-6
+    returns-6)

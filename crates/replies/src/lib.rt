@@ -1,0 +1,299 @@
+// The line protocols of the two programs: what a line asks, and what it is answered.
+use card::Card;
+use card::Numbers;
+use fieldbook::Angles;
+use fieldbook::Outcome;
+use lines::Row;
+ghost use mathlib.Core.Path.{_≡_};
+ghost use Prim.Native.Nat.{suc, _+_, _≤_};
+ghost use lib.ListN.{length};
+ghost use Rattle.lines.specs.Numbers.{listed};
+ghost use Rattle.lines.specs.Writing.{Appends};
+ghost use Rattle.replies.specs.Commands.{fieldCommand, spoken, sessionCommand, plainShot, commandOf};
+ghost use Rattle.replies.specs.Answers.{longest, labelled, refusalText, outcomeText, read, readText, directionText, furtherText, shotText, plainShotText, answerText, cardAfter, reply, next};
+
+// The most digits of a number in a line of the session, and of the batch.
+const SESSION_DIGITS: usize = 9;
+
+const BATCH_DIGITS: usize = 18;
+
+// The refusal of a line that is not of its program's form.
+const MALFORMED: u64 = 14;
+
+// The most bytes that an answer takes, without its newline.
+const LONGEST: usize = 95;
+
+// Which program's lines.
+pub enum Protocol {
+    // A card of fields: `H field number`, `R field`, `C field`, `S`.
+    Session,
+    // Ten numbers.
+    Batch,
+}
+
+// What a line asks.
+pub enum Command {
+    Hear(i64, i64),
+    Read(i64),
+    Confirm(i64),
+    Shoot,
+    ShootPlain(Numbers),
+    Malformed,
+}
+
+// The card after a line, and where its answer ends in the buffer.
+pub struct Reply {
+    pub card: Card,
+    pub end: usize,
+}
+
+// `R` or `C`, and a field.
+fn field_command(letter: u8, field: i64) -> Command
+    ensures { λ r. ⌜ r ≡ fieldCommand letter field ⌝ }
+{
+    if letter == b'R' {
+        return Command::Read(field);
+    }
+    if letter == b'C' {
+        return Command::Confirm(field);
+    }
+    Command::Malformed
+}
+
+// A letter, and the numbers behind it: `H` with a field and a number, `R` and `C` with a field.
+fn spoken_command(letter: u8, row: Row) -> Command
+    ensures { λ r. ⌜ r ≡ spoken letter (listed row) ⌝ }
+{
+    let numbers = row.numbers;
+    if letter == b'H' {
+        if row.count == 2 {
+            return Command::Hear(numbers[0], numbers[1]);
+        }
+        return Command::Malformed;
+    }
+    if row.count == 1 {
+        return field_command(letter, numbers[0]);
+    }
+    Command::Malformed
+}
+
+// A line of the session, without its newline.
+fn session_command(line: &[u8]) -> Command
+    ensures { λ r. ⌜ r ≡ sessionCommand (now (line .entry)) ⌝ }
+{
+    if line.len() == 0 {
+        return Command::Malformed;
+    }
+    let letter = line[0];
+    if line.len() == 1 {
+        if letter == b'S' {
+            return Command::Shoot;
+        }
+        return Command::Malformed;
+    }
+    if line[1] != b' ' {
+        return Command::Malformed;
+    }
+    spoken_command(letter, lines::numbers_of(&line[2..], SESSION_DIGITS))
+}
+
+// Ten numbers, in the order of the card.
+fn plain_command(row: Row) -> Command
+    ensures { λ r. ⌜ r ≡ plainShot (listed row) ⌝ }
+{
+    let numbers = row.numbers;
+    if row.count < 10 {
+        return Command::Malformed;
+    }
+    Command::ShootPlain(Numbers {
+        year: numbers[0],
+        month: numbers[1],
+        day: numbers[2],
+        hour: numbers[3],
+        minute: numbers[4],
+        millisecond: numbers[5],
+        dut1: numbers[6],
+        latitude: numbers[7],
+        longitude: numbers[8],
+        body: numbers[9],
+    })
+}
+
+// What a line of a program asks.
+pub fn command_of(protocol: Protocol, line: &[u8]) -> Command
+    ensures { λ r. ⌜ r ≡ commandOf protocol (now (line .entry)) ⌝ }
+{
+    match protocol {
+        Protocol::Session => session_command(line),
+        Protocol::Batch => plain_command(lines::numbers_of(line, BATCH_DIGITS)),
+    }
+}
+
+// Appends a label and a number.
+fn append_labelled(out: &mut [u8], at: usize, label: &[u8], n: u64) -> usize
+    requires { ⌜ at + (length (now label) + 20) ≤ length (now out) ⌝ }
+    ensures { λ r. ⌜ Appends (now (out .entry)) at (labelled (now (label .entry)) n) (now (out .exit)) r ⌝ }
+    ensures { λ r. ⌜ r ≤ at + (length (now (label .entry)) + 20) ⌝ }
+{
+    let end = lines::append_bytes(out, at, label);
+    lines::append_decimal(out, end, n)
+}
+
+// Appends `no` and a refusal number.
+fn append_refusal(out: &mut [u8], at: usize, n: u64) -> usize
+    requires { ⌜ at + longest ≤ length (now out) ⌝ }
+    ensures { λ r. ⌜ Appends (now (out .entry)) at (refusalText n) (now (out .exit)) r ⌝ }
+    ensures { λ r. ⌜ r ≤ at + longest ⌝ }
+{
+    append_labelled(out, at, b"no ", n)
+}
+
+// Appends `ok` for 0, and a refusal for any other number.
+fn append_outcome(out: &mut [u8], at: usize, n: u64) -> usize
+    requires { ⌜ at + longest ≤ length (now out) ⌝ }
+    ensures { λ r. ⌜ Appends (now (out .entry)) at (outcomeText n) (now (out .exit)) r ⌝ }
+    ensures { λ r. ⌜ r ≤ at + longest ⌝ }
+{
+    if n == 0 {
+        return lines::append_bytes(out, at, b"ok");
+    }
+    append_refusal(out, at, n)
+}
+
+// Appends azimuth and zenith distance.
+fn append_directions(out: &mut [u8], at: usize, a: Angles) -> usize
+    requires { ⌜ at + 47 ≤ length (now out) ⌝ }
+    ensures { λ r. ⌜ Appends (now (out .entry)) at (directionText a) (now (out .exit)) r ⌝ }
+    ensures { λ r. ⌜ r ≤ at + 47 ⌝ }
+{
+    let end = append_labelled(out, at, b"az ", a.azimuth);
+    append_labelled(out, end, b" zd ", a.zenith)
+}
+
+// Appends hour angle and apparent longitude.
+fn append_further(out: &mut [u8], at: usize, a: Angles) -> usize
+    requires { ⌜ at + 47 ≤ length (now out) ⌝ }
+    ensures { λ r. ⌜ Appends (now (out .entry)) at (furtherText a) (now (out .exit)) r ⌝ }
+    ensures { λ r. ⌜ r ≤ at + 47 ⌝ }
+{
+    let end = append_labelled(out, at, b" ha ", a.hour_angle);
+    append_labelled(out, end, b" s ", a.longitude)
+}
+
+// Appends the answer to a shot from a card.
+fn append_shot(out: &mut [u8], at: usize, shot: Outcome) -> usize
+    requires { ⌜ at + longest ≤ length (now out) ⌝ }
+    ensures { λ r. ⌜ Appends (now (out .entry)) at (shotText shot) (now (out .exit)) r ⌝ }
+    ensures { λ r. ⌜ r ≤ at + longest ⌝ }
+{
+    match shot {
+        Outcome::Answered(a) => append_directions(out, at, a),
+        Outcome::Refused(r) => append_refusal(out, at, fieldbook::refusal_number(r)),
+    }
+}
+
+// Appends the answer to a shot with plain numbers.
+fn append_plain_shot(out: &mut [u8], at: usize, shot: Outcome) -> usize
+    requires { ⌜ at + longest ≤ length (now out) ⌝ }
+    ensures { λ r. ⌜ Appends (now (out .entry)) at (plainShotText shot) (now (out .exit)) r ⌝ }
+    ensures { λ r. ⌜ r ≤ at + longest ⌝ }
+{
+    match shot {
+        Outcome::Answered(a) => {
+            let end = append_directions(out, at, a);
+            append_further(out, end, a)
+        }
+        Outcome::Refused(r) => append_refusal(out, at, fieldbook::refusal_number(r)),
+    }
+}
+
+// Reads a field out.
+fn read_out(card: Card, field: i64, out: &mut [u8], at: usize) -> Reply
+    requires { ⌜ at + longest ≤ length (now out) ⌝ }
+    ensures { λ r. ⌜ r .card ≡ read card field .card ⌝ }
+    ensures { λ r. ⌜ Appends (now (out .entry)) at (readText card field) (now (out .exit)) (r .end) ⌝ }
+    ensures { λ r. ⌜ r .end ≤ at + longest ⌝ }
+{
+    let end = at + LONGEST;
+    let r = card::read(card, field, &mut out[at..end], 0);
+    let after = r.card;
+    let refusal = r.refusal;
+    if refusal == 0 {
+        return Reply {
+            card: after,
+            end: at + r.length,
+        };
+    }
+    let end = append_refusal(out, at, refusal);
+    Reply {
+        card: after,
+        end: end,
+    }
+}
+
+// Does what a command asks, and appends its answer.
+fn obey(command: Command, card: Card, out: &mut [u8], at: usize) -> Reply
+    requires { ⌜ at + longest ≤ length (now out) ⌝ }
+    ensures { λ r. ⌜ r .card ≡ cardAfter command card ⌝ }
+    ensures { λ r. ⌜ Appends (now (out .entry)) at (answerText command card) (now (out .exit)) (r .end) ⌝ }
+    ensures { λ r. ⌜ r .end ≤ at + longest ⌝ }
+{
+    match command {
+        Command::Hear(field, number) => {
+            let r = card::hear(card, field, number);
+            let after = r.card;
+            let end = append_outcome(out, at, r.refusal);
+            Reply {
+                card: after,
+                end: end,
+            }
+        }
+        Command::Read(field) => read_out(card, field, out, at),
+        Command::Confirm(field) => {
+            let r = card::confirm(card, field);
+            let after = r.card;
+            let end = append_outcome(out, at, r.refusal);
+            Reply {
+                card: after,
+                end: end,
+            }
+        }
+        Command::Shoot => {
+            let end = append_shot(out, at, fieldbook::shot_from_card(card));
+            Reply {
+                card: card,
+                end: end,
+            }
+        }
+        Command::ShootPlain(numbers) => {
+            let end = append_plain_shot(out, at, fieldbook::shot(numbers));
+            Reply {
+                card: card,
+                end: end,
+            }
+        }
+        Command::Malformed => {
+            let end = append_refusal(out, at, MALFORMED);
+            Reply {
+                card: card,
+                end: end,
+            }
+        }
+    }
+}
+
+// Answers a line of a program, given without its newline: appends the answer and a newline.
+pub fn answer(protocol: Protocol, card: Card, line: &[u8], out: &mut [u8], at: usize) -> Reply
+    requires { ⌜ at + suc longest ≤ length (now out) ⌝ }
+    ensures { λ r. ⌜ r .card ≡ next protocol card (now (line .entry)) ⌝ }
+    ensures { λ r. ⌜ Appends (now (out .entry)) at (reply protocol card (now (line .entry))) (now (out .exit)) (r .end) ⌝ }
+    ensures { λ r. ⌜ r .end ≤ at + suc longest ⌝ }
+{
+    let r = obey(command_of(protocol, line), card, out, at);
+    let after = r.card;
+    let end = lines::append_bytes(out, r.end, b"\n");
+    Reply {
+        card: after,
+        end: end,
+    }
+}

@@ -1,0 +1,39 @@
+-- THE RUN of a program: what it writes for a whole input (document 01, "One session, whole"). A newline ends a line; the last may lack it.
+-- Every line has one line of output. Definitions, with examples; assumes nothing.
+use Prim.Native.Nat.{ℕ}
+use mathlib.Core.Path.{_≡_, refl}
+use mathlib.Core.Bool.{cond}
+use mathlib.Core.List.{List, [], _∷_, _++_}
+use lib.Dec.{eqb}
+use lib.ListN.{length}
+use Rattle.card.specs.declared.Card.{Card}
+use Rattle.card.specs.Fields.{freshCard}
+use Rattle.replies.specs.declared.Protocol.{Protocol}
+use Rattle.replies.specs.Answers.{reply, next}
+
+-- the last line, where something stands behind the last newline
+abbrev pub lastLine : List ℕ → List (List ℕ)
+lastLine [] = []
+lastLine (b ∷ l) = (b ∷ l) ∷ []
+
+-- the lines of an input behind `begun`, which stands on the first line already
+unfoldable pub linesBehind : List ℕ → List ℕ → List (List ℕ)
+linesBehind begun [] = lastLine begun
+linesBehind begun (b ∷ input) = cond (eqb b 10) (begun ∷ linesBehind [] input) (linesBehind (begun ++ (b ∷ [])) input)
+
+abbrev pub linesOf : List ℕ → List (List ℕ)
+linesOf input = linesBehind [] input
+
+-- the answers to lines, one after the other
+unfoldable pub replies : Protocol → Card → List (List ℕ) → List ℕ
+replies p c [] = []
+replies p c (l ∷ ls) = reply p c l ++ replies p (next p c l) ls
+
+-- from a fresh card
+abbrev pub run : Protocol → List ℕ → List ℕ
+run p input = replies p freshCard (linesOf input)
+
+-- "S\n\nS": an empty line between, and the last without a newline
+three-lines : linesOf (83 ∷ 10 ∷ 10 ∷ 83 ∷ []) ≡ (83 ∷ []) ∷ [] ∷ (83 ∷ []) ∷ []
+unfolding linesBehind
+three-lines = refl

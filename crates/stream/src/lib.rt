@@ -1,0 +1,245 @@
+// A program over lines: its input comes in chunks of any length, and each whole line is answered at once.
+use card::Card;
+use libc::STDIN_FILENO;
+use libc::STDOUT_FILENO;
+use replies::Protocol;
+ghost use mathlib.Core.Path.{_≡_};
+ghost use mathlib.Core.List.{[], _++_};
+ghost use Prim.Native.Nat.{suc, _+_, _*_, _≤_};
+ghost use lib.ListN.{length, take};
+ghost use Rattle.card.specs.Fields.{freshCard};
+ghost use Rattle.lines.specs.Writing.{Appends};
+ghost use Rattle.replies.specs.Answers.{reply, next};
+ghost use Rattle.stream.specs.Feeding.{keptLength, held, chunkLength, room, lastReply, Feeds};
+
+// The bytes that are kept of an unfinished line: one more than the longest line has that is not malformed.
+const KEPT: usize = 200;
+
+// The bytes that are read at once, and room for the answers to them: each byte ends one line at most, whose answer and newline take at most 96.
+const CHUNK: usize = 4096;
+
+const OUTPUT: usize = 393_216;
+
+// The unfinished line: the first `len` bytes of the array.
+pub struct Kept {
+    pub bytes: [u8; KEPT],
+    pub len: usize,
+}
+
+// What a program holds between two chunks.
+pub struct State {
+    pub card: Card,
+    pub kept: Kept,
+}
+
+// The state after a chunk, and where its output ends in the buffer.
+pub struct Fed {
+    pub state: State,
+    pub end: usize,
+}
+
+fn no_line() -> Kept
+    ensures { λ r. ⌜ held r ≡ [] ⌝ }
+{
+    Kept {
+        bytes: [0u8; KEPT],
+        len: 0,
+    }
+}
+
+// A fresh card, and no line begun.
+pub fn start() -> State
+    ensures { λ r. ⌜ (r .card ≡ freshCard) × (held (r .kept) ≡ []) ⌝ }
+{
+    let card = card::fresh();
+    let kept = no_line();
+    State {
+        card: card,
+        kept: kept,
+    }
+}
+
+// How many bytes are kept: never more than there are.
+fn kept_len(kept: Kept) -> usize
+    ensures { λ r. ⌜ (r ≤ keptLength) × (take r (kept .bytes) ≡ held kept) ⌝ }
+{
+    if kept.len < KEPT { kept.len } else { KEPT }
+}
+
+// The unfinished line with a piece more.
+fn keep(kept: Kept, piece: &[u8]) -> Kept
+    ensures { λ r. ⌜ held r ≡ take keptLength (held kept ++ now (piece .entry)) ⌝ }
+    ensures { λ r. ⌜ r .len ≤ keptLength ⌝ }
+{
+    let mut bytes = kept.bytes;
+    let mut len = kept_len(kept);
+    let mut i = 0;
+    while i < piece.len() {
+        if KEPT <= len {
+            return Kept {
+                bytes: bytes,
+                len: len,
+            };
+        }
+        bytes[len] = piece[i];
+        len += 1;
+        i += 1;
+    }
+    Kept {
+        bytes: bytes,
+        len: len,
+    }
+}
+
+// Answers the line that a piece ends.
+fn end_line(protocol: Protocol, state: State, piece: &[u8], out: &mut [u8], at: usize) -> Fed
+    requires { ⌜ at + room ≤ length (now out) ⌝ }
+    ensures { λ r. ⌜ r .state .card ≡ next protocol (state .card) (held (state .kept) ++ now (piece .entry)) ⌝ }
+    ensures { λ r. ⌜ held (r .state .kept) ≡ [] ⌝ }
+    ensures { λ r. ⌜ Appends (now (out .entry)) at (reply protocol (state .card) (held (state .kept) ++ now (piece .entry))) (now (out .exit)) (r .end) ⌝ }
+    ensures { λ r. ⌜ r .end ≤ at + room ⌝ }
+{
+    let card = state.card;
+    let kept = state.kept;
+    let none = no_line();
+    if kept.len == 0 {
+        let r = replies::answer(protocol, card, piece, out, at);
+        let after = r.card;
+        let fresh = State {
+            card: after,
+            kept: none,
+        };
+        return Fed {
+            state: fresh,
+            end: r.end,
+        };
+    }
+    let line = keep(kept, piece);
+    let bytes = line.bytes;
+    let len = line.len;
+    let r = replies::answer(protocol, card, &bytes[..len], out, at);
+    let after = r.card;
+    let fresh = State {
+        card: after,
+        kept: none,
+    };
+    Fed {
+        state: fresh,
+        end: r.end,
+    }
+}
+
+// Keeps the piece of a line that a chunk ends with.
+fn keep_rest(state: State, piece: &[u8]) -> State
+    ensures { λ r. ⌜ r .card ≡ state .card ⌝ }
+    ensures { λ r. ⌜ held (r .kept) ≡ take keptLength (held (state .kept) ++ now (piece .entry)) ⌝ }
+{
+    let card = state.card;
+    let begun = state.kept;
+    let kept = keep(begun, piece);
+    State {
+        card: card,
+        kept: kept,
+    }
+}
+
+// Takes a chunk of input: answers each line that it ends, and keeps the rest.
+pub fn feed(protocol: Protocol, state: State, chunk: &[u8], out: &mut [u8]) -> Fed
+    requires { ⌜ length (now chunk) * room ≤ length (now out) ⌝ }
+    ensures { λ r. ⌜ Feeds protocol state (now (chunk .entry)) (r .state) (take (r .end) (now (out .exit))) ⌝ }
+    ensures { λ r. ⌜ r .end ≤ length (now (out .entry)) ⌝ }
+{
+    let mut s = state;
+    let mut end = 0;
+    let mut from = 0;
+    while from < chunk.len() {
+        let stop = from + lines::find(&chunk[from..], b'\n');
+        if chunk.len() <= stop {
+            let rest = keep_rest(s, &chunk[from..]);
+            return Fed {
+                state: rest,
+                end: end,
+            };
+        }
+        let fed = end_line(protocol, s, &chunk[from..stop], out, end);
+        s = fed.state;
+        end = fed.end;
+        from = stop + 1;
+    }
+    Fed { state: s, end: end }
+}
+
+// Answers the last line of the input, where it lacks its newline, and returns where the output ends.
+pub fn finish(protocol: Protocol, state: State, out: &mut [u8]) -> usize
+    requires { ⌜ room ≤ length (now out) ⌝ }
+    ensures { λ r. ⌜ take r (now (out .exit)) ≡ lastReply protocol (state .card) (held (state .kept)) ⌝ }
+    ensures { λ r. ⌜ r ≤ length (now (out .entry)) ⌝ }
+{
+    let kept = state.kept;
+    if kept_len(kept) == 0 {
+        return 0;
+    }
+    let fed = end_line(protocol, state, b"", out, 0);
+    fed.end
+}
+
+// The state after a read, and whether the input goes on.
+struct Turn {
+    state: State,
+    more: bool,
+}
+
+// Reads once, and writes the answers to what came.
+fn feed_some(protocol: Protocol, state: State, out: &mut [u8]) -> Turn
+    requires { ⌜ chunkLength * room ≤ length (now out) ⌝ }
+{
+    let mut input = [0u8; CHUNK];
+    let got = libc::read(STDIN_FILENO, &mut input);
+    if got <= 0 {
+        return Turn {
+            state: state,
+            more: false,
+        };
+    }
+    let n = io::count(got, &input);
+    let fed = feed(protocol, state, &input[..n], out);
+    let after = fed.state;
+    let end = fed.end;
+    let more = io::write_all(STDOUT_FILENO, &out[..end]);
+    Turn {
+        state: after,
+        more: more,
+    }
+}
+
+// Reads to the input's end. A proved loop has to end, so this one counts its turns down from a number that no run uses up.
+fn feed_input(protocol: Protocol, out: &mut [u8]) -> State
+    requires { ⌜ chunkLength * room ≤ length (now out) ⌝ }
+{
+    let mut state = start();
+    let mut turns = u64::MAX;
+    while turns > 0 {
+        let turn = feed_some(protocol, state, out);
+        state = turn.state;
+        if !turn.more {
+            break;
+        }
+        turns -= 1;
+    }
+    state
+}
+
+// Reads to the input's end, and answers a last line that lacks its newline.
+fn run_with(protocol: Protocol, out: &mut [u8])
+    requires { ⌜ chunkLength * room ≤ length (now out) ⌝ }
+{
+    let last = feed_input(protocol, out);
+    let end = finish(protocol, last, out);
+    io::write_all(STDOUT_FILENO, &out[..end]);
+}
+
+// Runs a program: reads standard input to its end and writes the answers of each chunk as it comes in.
+pub fn run(protocol: Protocol) {
+    let mut output = [0u8; OUTPUT];
+    run_with(protocol, &mut output);
+}
