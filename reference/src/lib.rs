@@ -3,8 +3,10 @@
 
 pub mod angle;
 pub mod arguments;
+pub mod bench;
 pub mod calendar;
 pub mod card;
+pub mod compare;
 pub mod digits;
 pub mod exact;
 pub mod fieldbook;
@@ -15,6 +17,8 @@ pub mod natural;
 pub mod parts;
 pub mod polaris;
 pub mod polynomial;
+pub mod random;
+pub mod random_lines;
 pub mod refusal;
 pub mod replay;
 pub mod rotation;
