@@ -2,6 +2,7 @@
 
 use crate::exact::QUADRANT;
 use crate::sine::{interpolate, Sine, STEP, STEPS};
+use std::hint::select_unpredictable;
 
 /// The angle of (x, y), 0 .. turn - 1; that of (0, 0) is 0.
 pub fn angle(sine: &Sine, x: i64, y: i64) -> i64 {
@@ -18,34 +19,31 @@ pub fn angle(sine: &Sine, x: i64, y: i64) -> i64 {
 /// The largest a of 0 .. Q - 1 for which x * Sin(a) is at most y * Cos(a), x above 0.
 /// A binary search over the table's angles, then one inside the step that it found.
 fn in_quadrant(sine: &Sine, x: u64, y: u64) -> i64 {
-    let passes = |sin: i64, cos: i64| {
-        u128::from(x) * u128::from(sin as u64) <= u128::from(y) * u128::from(cos as u64)
-    };
-    let step = largest(STEPS as i64, |n| {
+    let passes =
+        |sin: u64, cos: u64| u128::from(x) * u128::from(sin) <= u128::from(y) * u128::from(cos);
+    let n = largest(STEPS as u64, |n| {
         let n = n as usize;
         passes(sine.entry(n), sine.entry(STEPS - n))
     });
-    let n = step as usize;
-    let (sin_low, sin_high) = (sine.entry(n), sine.entry(n + 1));
-    let (cos_low, cos_high) = (sine.entry(STEPS - n - 1), sine.entry(STEPS - n));
+    let (low, high) = (n as usize, STEPS - n as usize);
+    let (sin_low, sin_high) = (sine.entry(low), sine.entry(low + 1));
+    let (cos_low, cos_high) = (sine.entry(high - 1), sine.entry(high));
     let rest = largest(STEP, |rest| {
         let sin = interpolate(sin_low, sin_high, rest);
         passes(sin, interpolate(cos_low, cos_high, STEP - rest))
     });
-    STEP * step + rest
+    (STEP * n + rest) as i64
 }
 
 /// The largest number of 0 .. limit - 1 that passes, where 0 does and passing ends once.
+/// Each outcome is as likely as the other, so the choice is kept free of branches.
 #[inline(always)]
-fn largest(limit: i64, passes: impl Fn(i64) -> bool) -> i64 {
-    let (mut good, mut bad) = (0, limit);
-    while bad - good > 1 {
-        let middle = (good + bad) / 2;
-        if passes(middle) {
-            good = middle;
-        } else {
-            bad = middle;
-        }
+fn largest(limit: u64, passes: impl Fn(u64) -> bool) -> u64 {
+    let (mut good, mut count) = (0, limit);
+    while count > 1 {
+        let middle = good + count / 2;
+        good = select_unpredictable(passes(middle), middle, good);
+        count -= count / 2;
     }
     good
 }

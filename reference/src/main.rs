@@ -1,6 +1,6 @@
 //! The command `reference`: see `USAGE`.
 
-use reference::bench::{answered_shots, nanoseconds_per_shot};
+use reference::bench::{answered_shots, time_shots};
 use reference::card::Card;
 use reference::compare::{
     equal_outputs, random_lines, random_shots, Counts, REFUSALS_OF_A_SESSION, REFUSALS_OF_SHOTS,
@@ -13,6 +13,7 @@ use reference::session;
 use reference::sine::Sine;
 use std::error::Error;
 use std::io::{self, BufRead, Write};
+use std::ops::RangeInclusive;
 use std::process::{Command, ExitCode, Stdio};
 use std::thread;
 
@@ -30,7 +31,7 @@ without input:
   random-shots SEED COUNT    lines of ten numbers
   random-lines SEED COUNT    session lines, good and damaged
   bench-shots                the shots that bench times, as lines of ten numbers
-  bench COUNT                nanoseconds per shot: both bodies, Sun, Polaris
+  bench COUNT [sun|polaris]  nanoseconds per shot, of both bodies or one
   compare-shots SEED COUNT PROGRAM...    PROGRAM's answers to random-shots with these
   compare-session SEED COUNT PROGRAM...  PROGRAM's answers to random-lines with these";
 
@@ -65,7 +66,9 @@ fn dispatch(words: &[&str]) -> Outcome {
         ["random-shots", seed, count] => print(&random_shots(&sine, seed.parse()?, count.parse()?)),
         ["random-lines", seed, count] => print(&random_lines(&sine, seed.parse()?, count.parse()?)),
         ["bench-shots"] => bench_shots(&sine),
-        ["bench", count] => bench(&sine, count.parse()?),
+        ["bench", count] => bench(&sine, count.parse()?, 1..=2),
+        ["bench", count, "sun"] => bench(&sine, count.parse()?, 1..=1),
+        ["bench", count, "polaris"] => bench(&sine, count.parse()?, 2..=2),
         ["compare-shots", seed, count, ref program @ ..] => {
             let input = random_shots(&sine, seed.parse()?, count.parse()?);
             let answers = shots_answers(&sine, &input);
@@ -119,8 +122,7 @@ fn count_refusals() -> Outcome {
     for line in io::stdin().lock().lines() {
         counts.take_line(&line?);
     }
-    println!("{counts}");
-    Ok(())
+    print(format!("{counts}\n").as_bytes())
 }
 
 /// Prints the shots that `bench` times.
@@ -132,14 +134,11 @@ fn bench_shots(sine: &Sine) -> Outcome {
     Ok(output.flush()?)
 }
 
-/// Times `count` shots of both bodies, of the Sun and of Polaris.
-fn bench(sine: &Sine, count: u64) -> Outcome {
-    let shots = answered_shots(sine);
-    let (sun, polaris): (Vec<_>, Vec<_>) = shots.iter().partition(|fields| fields[9] == 1);
-    for (name, list) in [("both", &shots), ("sun", &sun), ("polaris", &polaris)] {
-        println!("{name} {:.1} ns per shot", nanoseconds_per_shot(sine, list, count));
-    }
-    Ok(())
+/// Times `count` shots of the bodies in a range of field 10.
+fn bench(sine: &Sine, count: u64, bodies: RangeInclusive<i64>) -> Outcome {
+    let mut shots = answered_shots(sine);
+    shots.retain(|fields| bodies.contains(&fields[9]));
+    print(format!("{}\n", time_shots(sine, &shots, count)).as_bytes())
 }
 
 /// This program's answers to lines of ten numbers.
@@ -165,7 +164,7 @@ fn compare(program: &[&str], input: Vec<u8>, answers: &[u8], refusals: &[usize])
     let output = child.wait_with_output()?;
     writer.join().map_err(|_| "writing failed")??;
     let counts = equal_outputs(answers, &output.stdout)?;
-    println!("{counts}");
+    print(format!("{counts}\n").as_bytes())?;
     if !output.status.success() {
         return Err(format!("the other program ended with {}", output.status).into());
     }

@@ -133,19 +133,25 @@ pub fn accepted(random: &mut Random) -> Fields {
     fields
 }
 
-/// Uniform, but one to three fields at a limit, one beside it, or far outside.
+/// Uniform, but one to three fields, fields 7 to 10 most often, at an edge.
 fn edges(random: &mut Random) -> Fields {
     let mut fields = accepted(random);
     for _ in 0..random.between(1, 3) {
-        let place = random.between(0, 9) as usize;
-        let (low, high) = RANGES[place];
-        fields[place] = match random.between(0, 3) {
-            0 => random.choose(&EXTREMES),
-            1 => low + random.between(-1, 1),
-            _ => high + random.between(-1, 1),
-        };
+        let first = random.choose(&[0, 6]);
+        let place = random.between(first, 9) as usize;
+        fields[place] = edge_number(random, place);
     }
     fields
+}
+
+/// A number at a limit of a field, beside it, or far outside; `place` is 0 for field 1.
+pub fn edge_number(random: &mut Random, place: usize) -> i64 {
+    let (low, high) = RANGES[place];
+    match random.between(0, 3) {
+        0 => random.choose(&EXTREMES),
+        1 => low + random.between(-1, 1),
+        _ => high + random.between(-1, 1),
+    }
 }
 
 /// Dates around the calendar's rules, or any day of 0 .. 32.

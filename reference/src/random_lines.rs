@@ -2,7 +2,7 @@
 
 use crate::card::LARGEST_HEARD;
 use crate::fieldbook::Fields;
-use crate::random::{shot_fields, Random};
+use crate::random::{edge_number, shot_fields, Random};
 use crate::sine::Sine;
 
 /// Bytes that a damaged line may get.
@@ -13,6 +13,11 @@ const MALFORMED: [&[u8]; 24] = [
     b"S 1", b"s", b"h 5 5", b"r 5", b"c 5", b"H 5  5", b"H  5 5", b"HH 5 5", b"H5 5", b"X 1",
     b"R\t5",
 ];
+
+/// Whether a number isn't refused when it is heard.
+fn is_hearable(number: i64) -> bool {
+    number.unsigned_abs() <= LARGEST_HEARD
+}
 
 /// Makes the lines of one long session.
 pub struct Lines<'a> {
@@ -44,15 +49,20 @@ impl<'a> Lines<'a> {
         line
     }
 
-    /// Some lines that belong together: loose calls first, while fields are still empty.
+    /// Some lines that belong together: reads of every field and loose calls first, while
+    /// fields are still empty.
     fn group(&mut self) -> Vec<Vec<u8>> {
+        if self.made == 0 {
+            return (1..=10).map(|field| format!("R {field}").into_bytes()).collect();
+        }
         if self.made < 100 {
             return vec![self.loose_call()];
         }
         match self.random.between(0, 15) {
             0..=3 => vec![self.loose_call()],
             4 => vec![self.malformed()],
-            5..=9 => self.new_shot(),
+            5..=8 => self.new_shot(),
+            9..=11 => self.edge_field(),
             _ => self.changed_fields(),
         }
     }
@@ -83,11 +93,25 @@ impl<'a> Lines<'a> {
         lines
     }
 
+    /// One field entered with a number at its edge, then a shot.
+    fn edge_field(&mut self) -> Vec<Vec<u8>> {
+        let place = self.random.between(3, 9);
+        let number = loop {
+            let number = edge_number(&mut self.random, place as usize);
+            if is_hearable(number) {
+                break number;
+            }
+        };
+        let mut lines = self.enter(place + 1, number);
+        lines.push(b"S".to_vec());
+        lines
+    }
+
     /// The ten numbers of a random shot whose numbers can all be heard.
     fn hearable_shot(&mut self) -> Fields {
         loop {
             let fields = shot_fields(&mut self.random, self.sine);
-            if fields.iter().all(|field| field.unsigned_abs() <= LARGEST_HEARD) {
+            if fields.iter().all(|&field| is_hearable(field)) {
                 return fields;
             }
         }
