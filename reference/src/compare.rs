@@ -45,7 +45,7 @@ impl Counts {
         }
     }
 
-    /// An error that names the refusals of a list that were never given, and no answer.
+    /// An error when a refusal of the list was never given or no shot was answered.
     pub fn all_reached(&self, expected: &[usize]) -> Result<(), String> {
         let missing = expected.iter().find(|&&number| self.refusals[number] == 0);
         match missing {
@@ -127,10 +127,12 @@ struct GuardedWords {
 }
 
 impl GuardedWords {
+    /// All words set to the pattern.
     fn new(pattern: i64) -> Self {
         GuardedWords { pattern, words: [pattern; GUARDS + 4 + GUARDS] }
     }
 
+    /// The four words in the middle.
     fn lent(&mut self) -> &mut [i64] {
         &mut self.words[GUARDS..GUARDS + 4]
     }

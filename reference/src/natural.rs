@@ -24,6 +24,7 @@ impl Natural {
         Self::from_limbs((0..4).map(|i| (value >> (32 * i)) as u32).collect())
     }
 
+    /// A number from its limbs, zero limbs on top taken off.
     fn from_limbs(mut limbs: Vec<u32>) -> Self {
         while limbs.last() == Some(&0) {
             limbs.pop();
@@ -92,6 +93,7 @@ impl Natural {
         quotient as i64
     }
 
+    /// A limb, 0 above the top.
     fn limb(&self, place: usize) -> u64 {
         self.limbs.get(place).copied().map_or(0, u64::from)
     }

@@ -20,10 +20,12 @@ const ARGUMENT_NAMES: [&str; 11] =
 struct Listing(Vec<String>);
 
 impl Listing {
+    /// A name and its number.
     fn number(&mut self, name: &str, value: i64) {
         self.0.push(format!("{name} {value}"));
     }
 
+    /// A name and its three components.
     fn direction(&mut self, name: &str, [x, y, z]: Direction) {
         self.0.push(format!("{name} {x},{y},{z}"));
     }

@@ -212,9 +212,9 @@ fn place(sine: &Sine, [x, y, z]: Direction) -> (i64, i64) {
     (angle(sine, x, y), if declination < 2 * QUADRANT { declination } else { declination - TURN })
 }
 
-/// Puts the observer at a latitude in units, `hour_angle` behind the body.
-fn observe(fields: &mut Fields, latitude: i64, body_longitude: i64) {
-    let longitude = reduce(body_longitude);
+/// Puts the observer at a latitude and longitude in units, within the fields' limits.
+fn observe(fields: &mut Fields, latitude: i64, longitude: i64) {
+    let longitude = reduce(longitude);
     let longitude = if longitude > TURN / 2 { longitude - TURN } else { longitude };
     fields[7] = (latitude / 1_000).clamp(-LARGEST_LATITUDE, LARGEST_LATITUDE);
     fields[8] = (longitude / 1_000).clamp(1 - LARGEST_LONGITUDE, LARGEST_LONGITUDE);
