@@ -37,6 +37,7 @@ without input:
 
 type Outcome = Result<(), Box<dyn Error>>;
 
+/// Runs the command; its error goes to standard error.
 fn main() -> ExitCode {
     let words: Vec<String> = std::env::args().skip(1).collect();
     let words: Vec<&str> = words.iter().map(String::as_str).collect();
