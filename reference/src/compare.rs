@@ -122,23 +122,23 @@ const GUARDS: usize = 8;
 
 /// Four lent words between guard words of one pattern.
 struct GuardedWords {
-    pattern: i64,
-    words: [i64; GUARDS + 4 + GUARDS],
+    pattern: u64,
+    words: [u64; GUARDS + 4 + GUARDS],
 }
 
 impl GuardedWords {
     /// All words set to the pattern.
-    fn new(pattern: i64) -> Self {
+    fn new(pattern: u64) -> Self {
         GuardedWords { pattern, words: [pattern; GUARDS + 4 + GUARDS] }
     }
 
     /// The four words in the middle.
-    fn lent(&mut self) -> &mut [i64] {
-        &mut self.words[GUARDS..GUARDS + 4]
+    fn lent(&mut self) -> &mut [u64; 4] {
+        (&mut self.words[GUARDS..GUARDS + 4]).try_into().expect("four words")
     }
 
     /// Whether the lent words hold these and all guards the pattern.
-    fn hold(&self, lent: [i64; 4]) -> bool {
+    fn hold(&self, lent: [u64; 4]) -> bool {
         let mut expected = [self.pattern; GUARDS + 4 + GUARDS];
         expected[GUARDS..GUARDS + 4].copy_from_slice(&lent);
         self.words == expected
@@ -151,26 +151,25 @@ pub fn compare_door(
     sine: &Sine,
     (seed, count): (u64, u64),
     refused: Refused,
-    mut door: impl FnMut(&Fields, &mut [i64]) -> i64,
+    mut door: impl FnMut(&Fields, &mut [u64; 4]) -> u64,
 ) -> Result<Counts, String> {
     let mut random = Random::new(seed);
     let mut counts = Counts::default();
     for _ in 0..count {
         let fields = shot_fields(&mut random, sine);
-        let mut words = GuardedWords::new(random.bits() as i64);
+        let mut words = GuardedWords::new(random.bits());
         let number = door(&fields, words.lent());
         let result = shot(sine, &fields);
         let expected = match (result, refused) {
-            (Ok(a), _) => [a.azimuth, a.zenith_distance, a.hour_angle, a.apparent_longitude],
+            (Ok(a), _) => a.words(),
             (Err(_), Refused::Zeros) => [0; 4],
             (Err(_), Refused::Unchanged) => [words.pattern; 4],
         };
-        let expected_number = result.map_or_else(Refusal::number, |_| 0);
+        let expected_number = result.map_or_else(Refusal::number, |_| 0) as u64;
         if number != expected_number || !words.hold(expected) {
-            let given = joined(words.lent());
-            let text = joined(&expected);
+            let given = words.lent();
             return Err(format!(
-                "{}: {expected_number} {text} expected, {number} {given} given",
+                "{}: {expected_number} {expected:?} expected, {number} {given:?} given",
                 joined(&fields)
             ));
         }

@@ -29,6 +29,14 @@ pub struct Angles {
     pub apparent_longitude: i64,
 }
 
+impl Angles {
+    /// The four angles in the order in which a door writes them into lent words.
+    pub fn words(&self) -> [u64; 4] {
+        [self.azimuth, self.zenith_distance, self.hour_angle, self.apparent_longitude]
+            .map(|angle| angle as u64)
+    }
+}
+
 /// The place of the body that was shot.
 #[derive(Clone, Copy, Debug)]
 pub enum Body {

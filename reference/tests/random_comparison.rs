@@ -12,21 +12,20 @@ use reference::sine::Sine;
 const COUNT: u64 = 20_000;
 
 /// This program's shot behind a door that leaves the words unchanged when it refuses.
-fn door(sine: &Sine, fields: &Fields, words: &mut [i64]) -> i64 {
+fn door(sine: &Sine, fields: &Fields, words: &mut [u64; 4]) -> u64 {
     match shot(sine, fields) {
         Ok(a) => {
-            let angles = [a.azimuth, a.zenith_distance, a.hour_angle, a.apparent_longitude];
-            words.copy_from_slice(&angles);
+            *words = a.words();
             0
         }
-        Err(refusal) => refusal.number(),
+        Err(refusal) => refusal.number() as u64,
     }
 }
 
 #[test]
 fn shots_reach_every_refusal() {
     let sine = Sine::new();
-    let same = |fields: &Fields, words: &mut [i64]| door(&sine, fields, words);
+    let same = |fields: &Fields, words: &mut [u64; 4]| door(&sine, fields, words);
     let counts = compare_door(&sine, (1, COUNT), Refused::Unchanged, same).unwrap();
     assert_eq!(counts.all_reached(&REFUSALS_OF_A_SHOT), Ok(()));
     assert!(compare_door(&sine, (1, COUNT), Refused::Zeros, same).is_err());
@@ -35,9 +34,9 @@ fn shots_reach_every_refusal() {
 #[test]
 fn a_door_that_differs_is_found() {
     let sine = Sine::new();
-    let late = |fields: &Fields, words: &mut [i64]| {
+    let late = |fields: &Fields, words: &mut [u64; 4]| {
         let number = door(&sine, fields, words);
-        words[3] += i64::from(number == 0 && fields[0] == 2049);
+        words[3] += u64::from(number == 0 && fields[0] == 2049);
         number
     };
     assert!(compare_door(&sine, (1, COUNT), Refused::Unchanged, late).is_err());
