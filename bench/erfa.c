@@ -3,6 +3,7 @@
 #include "harness.h"
 
 #include <erfa.h>
+#include <erfam.h>
 #include <math.h>
 
 /* Units of 0.0001 second of arc in a radian. */
