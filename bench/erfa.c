@@ -24,6 +24,11 @@ static struct instant instant_of(const int64_t *fields)
     eraUtctai(t.utc[0], t.utc[1], &tai[0], &tai[1]);
     eraTaitt(tai[0], tai[1], &t.tt[0], &t.tt[1]);
     eraUtcut1(t.utc[0], t.utc[1], (double)fields[6] / 1000.0, &t.ut1[0], &t.ut1[1]);
+#ifdef UT_FOR_ET
+    /* The book's own simplification, so that accuracy/run can tell what it costs. */
+    t.tt[0] = t.ut1[0];
+    t.tt[1] = t.ut1[1];
+#endif
     return t;
 }
 
