@@ -1,0 +1,32 @@
+/* Works the shots of standard input, ten numbers to a line, and prints the angles or the refusal
+   of each. */
+#include "fieldbook.h"
+
+#include <inttypes.h>
+#include <stdio.h>
+
+/* Reads the ten numbers of the next shot; returns whether there was one. */
+static int read_shot(int64_t n[10])
+{
+    for (int i = 0; i < 10; i++)
+        if (scanf("%" SCNd64, &n[i]) != 1)
+            return 0;
+    return 1;
+}
+
+int main(void)
+{
+    int64_t n[10];
+    while (read_shot(n)) {
+        uint64_t angles[4];
+        uint64_t refusal = fieldbook_shot(n[0], n[1], n[2], n[3], n[4], n[5], n[6], n[7], n[8],
+                                          n[9], angles);
+        if (refusal == FIELDBOOK_ANSWERED)
+            printf("az %" PRIu64 " zd %" PRIu64 " ha %" PRIu64 " s %" PRIu64 "\n",
+                   angles[FIELDBOOK_AZIMUTH], angles[FIELDBOOK_ZENITH],
+                   angles[FIELDBOOK_HOUR_ANGLE], angles[FIELDBOOK_LONGITUDE]);
+        else
+            printf("no %" PRIu64 "\n", refusal);
+    }
+    return 0;
+}

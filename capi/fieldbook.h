@@ -1,0 +1,54 @@
+/* The field book for C: the functions of the static library libcapi.a (`rt staticlib capi`).
+   Every function is proved against docs/PROMISES.md. They keep nothing between two calls, take any
+   numbers, and may be called by several threads at once. */
+#ifndef FIELDBOOK_H
+#define FIELDBOOK_H
+
+#include <stdint.h>
+
+#ifdef __cplusplus
+extern "C" {
+#endif
+
+/* Why a shot is refused. Where several apply, the lowest is given. */
+enum fieldbook_refusal {
+    FIELDBOOK_ANSWERED = 0,
+    FIELDBOOK_NO_DATE = 2,       /* no such date, or not in 1976 to 2049 */
+    FIELDBOOK_NO_TIME = 3,       /* hour, minute or millisecond not allowed */
+    FIELDBOOK_NO_DUT1 = 4,       /* DUT1 out of range */
+    FIELDBOOK_NO_PLACE = 5,      /* latitude or longitude out of range */
+    FIELDBOOK_NO_BODY = 6,       /* body neither 1 nor 2 */
+    FIELDBOOK_BELOW_HORIZON = 7, /* the body is below the horizon */
+    FIELDBOOK_NEAR_ZENITH = 8    /* the body is too near the zenith for an azimuth */
+};
+
+/* Which word holds which angle, each in units of 0.0001 second of arc, 0 to 12,959,999,999. */
+enum fieldbook_angle {
+    FIELDBOOK_AZIMUTH = 0,    /* from north, clockwise */
+    FIELDBOOK_ZENITH = 1,     /* from the zenith, without refraction */
+    FIELDBOOK_HOUR_ANGLE = 2, /* from the meridian, westward */
+    FIELDBOOK_LONGITUDE = 3   /* the Sun's apparent longitude s; 0 for Polaris */
+};
+
+enum fieldbook_body { FIELDBOOK_SUN = 1, FIELDBOOK_POLARIS = 2 };
+
+/* The shot: where a body stands. Returns the refusal's number, 0 where the shot is answered. An
+   answered shot writes its four angles; a refused one writes nothing. angles must lead to four
+   words; nothing else is asked of the caller.
+
+   year, month, day    Gregorian date, UTC, 1976-01-01 to 2049-12-31
+   hour, minute        0 to 23, 0 to 59
+   millisecond         of the minute, 0 to 59,999; to 60,999 at 23:59 on 30 June or 31 December
+   dut1                UT1 - UTC in milliseconds, -900 to 900
+   latitude            in 0.1 seconds of arc, north positive, -3,204,000 to 3,204,000
+   longitude           in 0.1 seconds of arc, east positive, -6,479,999 to 6,480,000
+   body                an enum fieldbook_body */
+uint64_t fieldbook_shot(int64_t year, int64_t month, int64_t day, int64_t hour, int64_t minute,
+                        int64_t millisecond, int64_t dut1, int64_t latitude, int64_t longitude,
+                        int64_t body, uint64_t angles[4]);
+
+#ifdef __cplusplus
+}
+#endif
+
+#endif

@@ -1,0 +1,21 @@
+//! Works the shots of standard input, ten numbers to a line, and prints the angles or the refusal
+//! of each.
+
+use fieldbook::{shot, Numbers};
+use std::error::Error;
+use std::io;
+
+fn main() -> Result<(), Box<dyn Error>> {
+    for line in io::stdin().lines() {
+        let numbers: Result<Vec<i64>, _> = line?.split_whitespace().map(str::parse).collect();
+        let fields: [i64; 10] = numbers?.try_into().map_err(|_| "a line is ten numbers")?;
+        match shot(&Numbers::from(fields)) {
+            Ok(a) => println!(
+                "az {} zd {} ha {} s {}",
+                a.azimuth, a.zenith_angle, a.hour_angle, a.longitude
+            ),
+            Err(refusal) => println!("no {}", refusal as u64),
+        }
+    }
+    Ok(())
+}

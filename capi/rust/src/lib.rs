@@ -1,0 +1,116 @@
+//! The proved field book for Rust: a safe wrapper of the static library's functions. The units
+//! are those of `capi/fieldbook.h`.
+
+mod door {
+    extern "C" {
+        /// `fieldbook_shot` of `capi/fieldbook.h`.
+        pub fn fieldbook_shot(
+            year: i64,
+            month: i64,
+            day: i64,
+            hour: i64,
+            minute: i64,
+            millisecond: i64,
+            dut1: i64,
+            latitude: i64,
+            longitude: i64,
+            body: i64,
+            angles: &mut [u64; 4],
+        ) -> u64;
+    }
+}
+
+/// The ten numbers of a shot; any numbers may be given.
+#[derive(Clone, Copy, Debug, PartialEq, Eq)]
+pub struct Numbers {
+    pub year: i64,
+    pub month: i64,
+    pub day: i64,
+    pub hour: i64,
+    pub minute: i64,
+    /// Of the minute.
+    pub millisecond: i64,
+    /// UT1 - UTC, in milliseconds.
+    pub dut1: i64,
+    /// In 0.1 seconds of arc, north positive.
+    pub latitude: i64,
+    /// In 0.1 seconds of arc, east positive.
+    pub longitude: i64,
+    /// 1 the Sun, 2 Polaris.
+    pub body: i64,
+}
+
+/// An answered shot, in units of 0.0001 second of arc.
+#[derive(Clone, Copy, Debug, PartialEq, Eq)]
+pub struct Angles {
+    /// From north, clockwise.
+    pub azimuth: u64,
+    /// From the zenith, without refraction.
+    pub zenith_angle: u64,
+    /// From the meridian, westward.
+    pub hour_angle: u64,
+    /// The Sun's apparent longitude s; 0 for Polaris.
+    pub longitude: u64,
+}
+
+/// Why a shot is refused; its number is the discriminant.
+#[derive(Clone, Copy, Debug, PartialEq, Eq)]
+pub enum Refusal {
+    NoDate = 2,
+    NoTime = 3,
+    NoDut1 = 4,
+    NoPlace = 5,
+    NoBody = 6,
+    BelowHorizon = 7,
+    NearZenith = 8,
+}
+
+impl From<[i64; 10]> for Numbers {
+    /// The fields in the card's order.
+    fn from(fields: [i64; 10]) -> Self {
+        let [year, month, day, hour, minute, millisecond, dut1, latitude, longitude, body] = fields;
+        Numbers { year, month, day, hour, minute, millisecond, dut1, latitude, longitude, body }
+    }
+}
+
+/// The shot.
+pub fn shot(numbers: &Numbers) -> Result<Angles, Refusal> {
+    let mut words = [0; 4];
+    match shot_into(numbers, &mut words) {
+        0 => {
+            let [azimuth, zenith_angle, hour_angle, longitude] = words;
+            Ok(Angles { azimuth, zenith_angle, hour_angle, longitude })
+        }
+        2 => Err(Refusal::NoDate),
+        3 => Err(Refusal::NoTime),
+        4 => Err(Refusal::NoDut1),
+        5 => Err(Refusal::NoPlace),
+        6 => Err(Refusal::NoBody),
+        7 => Err(Refusal::BelowHorizon),
+        8 => Err(Refusal::NearZenith),
+        number => unreachable!("a plain shot is never refused by {number}"),
+    }
+}
+
+/// The shot as the door gives it: the refusal's number, 0 for none, and the four angles in the
+/// lent words, which a refused shot leaves as they are.
+pub fn shot_into(numbers: &Numbers, angles: &mut [u64; 4]) -> u64 {
+    let n = numbers;
+    // SAFETY: the function is proved for all numbers; it asks only for four words that it may
+    // write, which the reference grants, and keeps no pointer to them.
+    unsafe {
+        door::fieldbook_shot(
+            n.year,
+            n.month,
+            n.day,
+            n.hour,
+            n.minute,
+            n.millisecond,
+            n.dut1,
+            n.latitude,
+            n.longitude,
+            n.body,
+            angles,
+        )
+    }
+}

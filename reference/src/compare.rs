@@ -1,0 +1,179 @@
+//! Comparison of another program, or of a library behind a door of plain numbers, with
+//! this one on random input; and counts of the refusals that were reached.
+
+use crate::fieldbook::{shot, Angles, Fields};
+use crate::lines::joined;
+use crate::random::{shot_fields, Random};
+use crate::random_lines::Lines;
+use crate::refusal::Refusal;
+use crate::sine::Sine;
+use std::fmt;
+
+/// The refusals that plain shots reach.
+pub const REFUSALS_OF_A_SHOT: [usize; 7] = [2, 3, 4, 5, 6, 7, 8];
+/// The refusals that lines of ten numbers reach.
+pub const REFUSALS_OF_SHOTS: [usize; 8] = [2, 3, 4, 5, 6, 7, 8, 14];
+/// The refusals that a session reaches; its buffer always holds the text, so 11 is none.
+pub const REFUSALS_OF_A_SESSION: [usize; 13] = [1, 2, 3, 4, 5, 6, 7, 8, 9, 10, 12, 13, 14];
+
+/// How often each refusal was given, and how often a shot was answered.
+#[derive(Clone, Debug, Default, PartialEq, Eq)]
+pub struct Counts {
+    pub answered: u64,
+    /// By number; 0 isn't used.
+    pub refusals: [u64; 15],
+    /// Lines that are neither: `ok` and texts read back.
+    pub others: u64,
+}
+
+impl Counts {
+    /// Counts one line of output.
+    pub fn take_line(&mut self, line: &str) {
+        let number = line.strip_prefix("no ").and_then(|text| text.parse::<usize>().ok());
+        match number {
+            Some(number @ 1..=14) => self.refusals[number] += 1,
+            _ if line.starts_with("az ") => self.answered += 1,
+            _ => self.others += 1,
+        }
+    }
+
+    /// Counts one plain shot.
+    fn take_shot(&mut self, result: &Result<Angles, Refusal>) {
+        match result {
+            Ok(_) => self.answered += 1,
+            Err(refusal) => self.refusals[refusal.number() as usize] += 1,
+        }
+    }
+
+    /// An error when a refusal of the list was never given or no shot was answered.
+    pub fn all_reached(&self, expected: &[usize]) -> Result<(), String> {
+        let missing = expected.iter().find(|&&number| self.refusals[number] == 0);
+        match missing {
+            Some(number) => Err(format!("refusal {number} was never reached")),
+            None if self.answered == 0 => Err("no shot was answered".to_string()),
+            None => Ok(()),
+        }
+    }
+}
+
+impl fmt::Display for Counts {
+    fn fmt(&self, f: &mut fmt::Formatter<'_>) -> fmt::Result {
+        writeln!(f, "answered {}", self.answered)?;
+        for (number, count) in self.refusals.iter().enumerate().skip(1) {
+            writeln!(f, "no {number} {count}")?;
+        }
+        write!(f, "others {}", self.others)
+    }
+}
+
+/// Random shots as lines of ten numbers.
+pub fn random_shots(sine: &Sine, seed: u64, count: u64) -> Vec<u8> {
+    let mut random = Random::new(seed);
+    let mut text = Vec::new();
+    for _ in 0..count {
+        text.extend(joined(&shot_fields(&mut random, sine)).bytes());
+        text.push(b'\n');
+    }
+    text
+}
+
+/// Random session lines; with an odd seed the last one has no newline.
+pub fn random_lines(sine: &Sine, seed: u64, count: u64) -> Vec<u8> {
+    let mut lines = Lines::new(seed, sine);
+    let mut text = Vec::new();
+    for _ in 0..count {
+        text.extend(lines.next_line());
+        text.push(b'\n');
+    }
+    if seed % 2 == 1 && !text.ends_with(b"\n\n") {
+        text.pop();
+    }
+    text
+}
+
+/// Counts the lines of two outputs that must be equal, or says where they part.
+pub fn equal_outputs(expected: &[u8], given: &[u8]) -> Result<Counts, String> {
+    let mut counts = Counts::default();
+    let mut given_lines = given.split_inclusive(|&byte| byte == b'\n');
+    for (i, line) in expected.split_inclusive(|&byte| byte == b'\n').enumerate() {
+        let other = given_lines.next().unwrap_or_default();
+        let text = String::from_utf8_lossy(line);
+        if line != other {
+            let other = String::from_utf8_lossy(other);
+            return Err(format!("line {}: {text:?} expected, {other:?} given", i + 1));
+        }
+        counts.take_line(text.trim_end());
+    }
+    match given_lines.next() {
+        Some(_) => Err("the other output has more lines".to_string()),
+        None => Ok(counts),
+    }
+}
+
+/// What a door leaves in the lent words when it refuses a shot.
+#[derive(Clone, Copy, Debug, PartialEq, Eq)]
+pub enum Refused {
+    Zeros,
+    Unchanged,
+}
+
+/// Words on either side of the lent ones.
+const GUARDS: usize = 8;
+
+/// Four lent words between guard words of one pattern.
+struct GuardedWords {
+    pattern: u64,
+    words: [u64; GUARDS + 4 + GUARDS],
+}
+
+impl GuardedWords {
+    /// All words set to the pattern.
+    fn new(pattern: u64) -> Self {
+        GuardedWords { pattern, words: [pattern; GUARDS + 4 + GUARDS] }
+    }
+
+    /// The four words in the middle.
+    fn lent(&mut self) -> &mut [u64; 4] {
+        (&mut self.words[GUARDS..GUARDS + 4]).try_into().expect("four words")
+    }
+
+    /// Whether the lent words hold these and all guards the pattern.
+    fn hold(&self, lent: [u64; 4]) -> bool {
+        let mut expected = [self.pattern; GUARDS + 4 + GUARDS];
+        expected[GUARDS..GUARDS + 4].copy_from_slice(&lent);
+        self.words == expected
+    }
+}
+
+/// Compares a door (ten numbers and four lent words in, refusal number out) with this
+/// program on random shots; the error tells the first shot that differs.
+pub fn compare_door(
+    sine: &Sine,
+    (seed, count): (u64, u64),
+    refused: Refused,
+    mut door: impl FnMut(&Fields, &mut [u64; 4]) -> u64,
+) -> Result<Counts, String> {
+    let mut random = Random::new(seed);
+    let mut counts = Counts::default();
+    for _ in 0..count {
+        let fields = shot_fields(&mut random, sine);
+        let mut words = GuardedWords::new(random.bits());
+        let number = door(&fields, words.lent());
+        let result = shot(sine, &fields);
+        let expected = match (result, refused) {
+            (Ok(a), _) => a.words(),
+            (Err(_), Refused::Zeros) => [0; 4],
+            (Err(_), Refused::Unchanged) => [words.pattern; 4],
+        };
+        let expected_number = result.map_or_else(Refusal::number, |_| 0) as u64;
+        if number != expected_number || !words.hold(expected) {
+            let given = words.lent();
+            return Err(format!(
+                "{}: {expected_number} {expected:?} expected, {number} {given:?} given",
+                joined(&fields)
+            ));
+        }
+        counts.take_shot(&result);
+    }
+    Ok(counts)
+}

@@ -1,0 +1,28 @@
+//! A second program for document 01: an independent implementation in plain Rust, written
+//! from the papers alone, to which the proved book is compared.
+
+pub mod angle;
+pub mod arguments;
+pub mod bench;
+pub mod calendar;
+pub mod card;
+pub mod compare;
+pub mod digits;
+pub mod exact;
+pub mod fieldbook;
+pub mod frame;
+pub mod horizon;
+pub mod lines;
+pub mod natural;
+pub mod parts;
+pub mod polaris;
+pub mod polynomial;
+pub mod random;
+pub mod random_lines;
+pub mod refusal;
+pub mod replay;
+pub mod rotation;
+pub mod series;
+pub mod session;
+pub mod sine;
+pub mod sun;

@@ -1,0 +1,44 @@
+//! Words and numbers of a line. Document 01, "One session, whole".
+
+use crate::fieldbook::Fields;
+use crate::refusal::Refusal;
+
+/// The most digits of a number on a line of plain numbers: any such number fits 64 bits.
+pub const MOST_DIGITS: usize = 18;
+
+/// The words of a line, one space between; two spaces enclose an empty word.
+pub fn words(line: &[u8]) -> Vec<&[u8]> {
+    line.split(|&byte| byte == b' ').collect()
+}
+
+/// A number: an optional "-" and 1 to `most_digits` digits, or refusal 14.
+pub fn number(word: &[u8], most_digits: usize) -> Result<i64, Refusal> {
+    let digits = word.strip_prefix(b"-").unwrap_or(word);
+    let allowed = (1..=most_digits).contains(&digits.len());
+    if !allowed || !digits.iter().all(u8::is_ascii_digit) {
+        return Err(Refusal::MalformedLine);
+    }
+    let magnitude = digits.iter().fold(0, |value, digit| 10 * value + i64::from(digit - b'0'));
+    Ok(if digits.len() < word.len() { -magnitude } else { magnitude })
+}
+
+/// A line of exactly `COUNT` plain numbers, or refusal 14.
+pub fn numbers<const COUNT: usize>(line: &[u8]) -> Result<[i64; COUNT], Refusal> {
+    let words: [&[u8]; COUNT] = words(line).try_into().map_err(|_| Refusal::MalformedLine)?;
+    let mut values = [0; COUNT];
+    for (value, word) in values.iter_mut().zip(words) {
+        *value = number(word, MOST_DIGITS)?;
+    }
+    Ok(values)
+}
+
+/// Numbers as words with one space between.
+pub fn joined(numbers: &[i64]) -> String {
+    let words: Vec<String> = numbers.iter().map(i64::to_string).collect();
+    words.join(" ")
+}
+
+/// The ten numbers of a shot, or refusal 14.
+pub fn fields(line: &[u8]) -> Result<Fields, Refusal> {
+    numbers(line)
+}

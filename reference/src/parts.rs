@@ -1,0 +1,106 @@
+//! All intermediate numbers of a shot by name, as the outside vectors write them.
+
+use crate::arguments::{Arguments, ALL};
+use crate::exact::reduce;
+use crate::fieldbook::{reduction, Body, Fields, Reduction};
+use crate::frame::Frame;
+use crate::horizon::{Components, HorizonAngles};
+use crate::polaris::Polaris;
+use crate::refusal::Refusal;
+use crate::rotation::Direction;
+use crate::series::sum;
+use crate::sine::Sine;
+use crate::sun::{Sun, ABERRATION, CENTRE};
+
+/// The vectors' names of the arguments, in the order of `ALL`.
+const ARGUMENT_NAMES: [&str; 11] =
+    ["L", "Ms", "Mm", "Mv", "D", "Om", "Lm", "obl", "lp1", "lp2", "lp3"];
+
+/// Names and values with one space between.
+struct Listing(Vec<String>);
+
+impl Listing {
+    /// A name and its number.
+    fn number(&mut self, name: &str, value: i64) {
+        self.0.push(format!("{name} {value}"));
+    }
+
+    /// A name and its three components.
+    fn direction(&mut self, name: &str, [x, y, z]: Direction) {
+        self.0.push(format!("{name} {x},{y},{z}"));
+    }
+}
+
+/// The steps of an answered shot on one line, or its refusal.
+pub fn parts(sine: &Sine, fields: &Fields) -> Result<String, Refusal> {
+    let shot = reduction(sine, fields)?;
+    let angles = shot.horizon_angles(sine)?;
+    let mut listing = Listing(Vec::new());
+    time(&mut listing, &shot);
+    orientation(&mut listing, &shot.frame, shot.instant.millionths);
+    match &shot.body {
+        Body::Sun(place) => sun(&mut listing, sine, &shot, place),
+        Body::Polaris(place) => polaris(&mut listing, place),
+    }
+    listing.direction("vector", shot.body.direction());
+    horizon(&mut listing, &shot.components, &angles);
+    Ok(listing.0.join(" "))
+}
+
+/// N twice (the vectors leave room for an ephemeris time), q and every argument.
+fn time(listing: &mut Listing, shot: &Reduction) {
+    let arguments = Arguments::at(&shot.instant, &ALL);
+    listing.number("N", shot.instant.milliseconds);
+    listing.number("Ne", shot.instant.milliseconds);
+    listing.number("q", shot.instant.millionths);
+    for (name, which) in ARGUMENT_NAMES.into_iter().zip(ALL) {
+        listing.number(name, arguments.get(which));
+    }
+}
+
+/// Nutation, obliquity and sidereal time.
+fn orientation(listing: &mut Listing, frame: &Frame, q: i64) {
+    listing.number("dpsi", frame.nutation_in_longitude);
+    listing.number("deps", frame.nutation_in_obliquity);
+    listing.number("mean_obliquity", frame.mean_obliquity);
+    listing.number("eps", reduce(frame.obliquity));
+    listing.number("sidereal_q", q);
+    listing.number("sidereal", frame.sidereal_time);
+}
+
+/// The Sun's sums and longitude.
+fn sun(listing: &mut Listing, sine: &Sine, shot: &Reduction, place: &Sun) {
+    let centre = sum(sine, &[&CENTRE], &shot.arguments, shot.instant.millionths);
+    listing.number("first_sum", place.first_sum);
+    listing.number("centre", centre);
+    listing.number("aberration", ABERRATION);
+    listing.number("s", place.apparent_longitude);
+}
+
+/// The steps of Polaris; s is 0.
+fn polaris(listing: &mut Listing, place: &Polaris) {
+    listing.number("p", place.millionths);
+    listing.number("ra", place.right_ascension);
+    listing.number("dec", place.declination);
+    listing.number("zeta", place.zeta);
+    listing.number("z", place.z);
+    listing.number("theta", place.theta);
+    listing.direction("catalogue", place.catalogue);
+    listing.number("g", place.sun_longitude);
+    listing.direction("before_aberration", place.before_aberration);
+    listing.number("s", 0);
+}
+
+/// The components in the horizon's frame and the angles.
+fn horizon(listing: &mut Listing, components: &Components, angles: &HorizonAngles) {
+    listing.number("x", components.x);
+    listing.number("east", components.east);
+    listing.number("z_component", components.z);
+    listing.number("up", components.up);
+    listing.number("north", components.north);
+    listing.number("hh", components.square);
+    listing.number("h", angles.horizontal);
+    listing.number("azimuth", angles.azimuth);
+    listing.number("zenith", angles.zenith_distance);
+    listing.number("hour_angle", angles.hour_angle);
+}

@@ -1,0 +1,137 @@
+//! Answers to single lines of the vectors' formats and of the batch program.
+
+use crate::angle::angle;
+use crate::arguments::{Arguments, ALL};
+use crate::calendar::instant;
+use crate::card::{Card, Field};
+use crate::fieldbook::{shot, Angles};
+use crate::frame::frame;
+use crate::lines::{fields, joined, number, numbers, words, MOST_DIGITS};
+use crate::parts::parts;
+use crate::polynomial::Polynomial;
+use crate::refusal::Refusal;
+use crate::sine::Sine;
+use crate::sun::{polynomial_longitude, sun};
+
+/// Demand 3's bound of s against the polynomial longitude, in units.
+pub const LONGITUDE_BOUND: i64 = 60;
+
+/// A refusal as a line.
+pub fn refused(refusal: Refusal) -> String {
+    format!("no {}", refusal.number())
+}
+
+/// The batch program: ten numbers -> `az A zd Z ha H s S` or `no N`.
+pub fn shots_line(sine: &Sine, line: &[u8]) -> String {
+    match fields(line).and_then(|fields| shot(sine, &fields)) {
+        Ok(Angles { azimuth, zenith_distance, hour_angle, apparent_longitude }) => {
+            format!("az {azimuth} zd {zenith_distance} ha {hour_angle} s {apparent_longitude}")
+        }
+        Err(refusal) => refused(refusal),
+    }
+}
+
+/// Ten numbers -> every step by name.
+pub fn parts_line(sine: &Sine, line: &[u8]) -> Result<String, Refusal> {
+    parts(sine, &fields(line)?)
+}
+
+/// a -> Sin(a) Cos(a).
+pub fn sine_line(sine: &Sine, line: &[u8]) -> Result<String, Refusal> {
+    let [a] = numbers(line)?;
+    Ok(joined(&[sine.sin(a), sine.cos(a)]))
+}
+
+/// x y -> angle(x, y).
+pub fn angle_line(sine: &Sine, line: &[u8]) -> Result<String, Refusal> {
+    let [x, y] = numbers(line)?;
+    Ok(angle(sine, x, y).to_string())
+}
+
+/// Fields 1 to 7 -> s, the polynomial longitude and the bound; or refusals 2, 3, 4.
+pub fn longitude_line(
+    sine: &Sine,
+    polynomial: &Polynomial,
+    line: &[u8],
+) -> Result<String, Refusal> {
+    let instant = instant(&numbers(line)?)?;
+    let q = instant.millionths;
+    let arguments = Arguments::at(&instant, &ALL);
+    let frame = frame(sine, &instant, &arguments);
+    let s = sun(sine, &arguments, q, &frame).apparent_longitude;
+    let exact = polynomial_longitude(polynomial, &arguments, q);
+    Ok(joined(&[s, exact, LONGITUDE_BOUND]))
+}
+
+/// The refusal number of a call, 0 for none.
+fn refusal_number<T>(result: Result<T, Refusal>) -> i64 {
+    result.map_or_else(Refusal::number, |_| 0)
+}
+
+/// One call on the card: `fresh`, `hear F N`, `read F PLACE BUFFER`, `confirm F` or `shot`
+/// -> what it returned, then the card's fields.
+pub fn card_line(sine: &Sine, card: &mut Card, line: &[u8]) -> Result<String, Refusal> {
+    let words = words(line);
+    let number = |i: usize| number(words[i], MOST_DIGITS);
+    let returned = match (words[0], words.len()) {
+        (b"fresh", 1) => {
+            *card = Card::fresh();
+            String::new()
+        }
+        (b"hear", 3) => format!("{} ", refusal_number(card.hear(number(1)?, number(2)?))),
+        (b"confirm", 2) => format!("{} ", refusal_number(card.confirm(number(1)?))),
+        (b"read", 4) => read_call(card, number(1)?, number(2)?, words[3])?,
+        (b"shot", 1) => shot_call(sine, card),
+        _ => return Err(Refusal::MalformedLine),
+    };
+    let fields: Vec<String> = card.fields().iter().map(field_text).collect();
+    Ok(format!("{returned}| {}", fields.join(" ")))
+}
+
+/// Reads a field into a buffer given in hex: refusal, length and the buffer after.
+fn read_call(card: &mut Card, field: i64, place: i64, hex: &[u8]) -> Result<String, Refusal> {
+    let mut buffer = from_hex(hex)?;
+    let place = usize::try_from(place).map_err(|_| Refusal::MalformedLine)?;
+    let result = card.read(field, place, &mut buffer);
+    let length = result.unwrap_or(0);
+    Ok(format!("{} {length} {} ", refusal_number(result), to_hex(&buffer)))
+}
+
+/// A shot from the card: refusal and four angles, zeros when refused.
+fn shot_call(sine: &Sine, card: &Card) -> String {
+    let result = card.shot(sine);
+    let a = result.unwrap_or_default();
+    let angles = [a.azimuth, a.zenith_distance, a.hour_angle, a.apparent_longitude];
+    format!("{} {} ", refusal_number(result), joined(&angles))
+}
+
+/// A field's state and number: e, hN, rN, cN.
+fn field_text(field: &Field) -> String {
+    match field {
+        Field::Empty => "e".to_string(),
+        Field::Heard(number) => format!("h{number}"),
+        Field::Read(number) => format!("r{number}"),
+        Field::Confirmed(number) => format!("c{number}"),
+    }
+}
+
+/// The bytes of a buffer in hex; `-` is the empty one.
+fn from_hex(hex: &[u8]) -> Result<Vec<u8>, Refusal> {
+    if hex == b"-" {
+        return Ok(Vec::new());
+    }
+    let digit = |byte: u8| char::from(byte).to_digit(16).ok_or(Refusal::MalformedLine);
+    let byte = |pair: &[u8]| match *pair {
+        [high, low] => Ok((16 * digit(high)? + digit(low)?) as u8),
+        _ => Err(Refusal::MalformedLine),
+    };
+    hex.chunks(2).map(byte).collect()
+}
+
+/// A buffer in hex; `-` is the empty one.
+fn to_hex(bytes: &[u8]) -> String {
+    if bytes.is_empty() {
+        return "-".to_string();
+    }
+    bytes.iter().map(|byte| format!("{byte:02x}")).collect()
+}
