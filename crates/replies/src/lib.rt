@@ -241,20 +241,20 @@ fn obey(command: Command, card: Card, out: &mut [u8], at: usize) -> Reply
     match command {
         Command::Hear(field, number) => {
             let r = card::hear(card, field, number);
-            let after = r.card;
+            let heard = r.card;
             let end = append_outcome(out, at, r.refusal);
             Reply {
-                card: after,
+                card: heard,
                 end: end,
             }
         }
         Command::Read(field) => read_out(card, field, out, at),
         Command::Confirm(field) => {
             let r = card::confirm(card, field);
-            let after = r.card;
+            let confirmed = r.card;
             let end = append_outcome(out, at, r.refusal);
             Reply {
-                card: after,
+                card: confirmed,
                 end: end,
             }
         }
@@ -273,7 +273,7 @@ fn obey(command: Command, card: Card, out: &mut [u8], at: usize) -> Reply
             }
         }
         Command::Malformed => {
-            let end = append_refusal(out, at, MALFORMED);
+            let end = append_outcome(out, at, MALFORMED);
             Reply {
                 card: card,
                 end: end,

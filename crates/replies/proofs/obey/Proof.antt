@@ -52,8 +52,8 @@ append-plain-shot-requires c κs = search needs
 enum-told-2 : tie.Need-enum-told-2
 enum-told-2 c = search needs
 
-append-refusal-requires : tie.Need-append-refusal-requires
-append-refusal-requires c κs = search needs
+append-outcome-requires-3 : tie.Need-append-outcome-requires-3
+append-outcome-requires-3 c κs = search needs
 
 same-length : tie.Need-same-length
 same-length c = search needs
@@ -109,7 +109,7 @@ same-length-6 : tie.Need-same-length-6
 same-length-6 c = search needs
 
 returns-6 : tie.Need-returns-6
-returns-6 c = rw (c .before .before .before .before .enum-told2 .given .1) (refl, c .before .before .append-refusal .ensures)
+returns-6 c = rw (c .before .before .before .before .enum-told2 .given .1) (refl, c .before .before .append-outcome3 .ensures)
 
 pub obey-spec : {M : Type 1} → statement M
 obey-spec =
@@ -130,7 +130,7 @@ obey-spec =
     shot-requires
     append-plain-shot-requires
     enum-told-2
-    append-refusal-requires
+    append-outcome-requires-3
     same-length
     returns
     same-length-2
