@@ -62,7 +62,7 @@ def main():
     shots = [[int(w) for w in line.split()] for line in open(sys.argv[1])]
     book, erfa, at_ut = read_book(sys.argv[2]), read_erfa(sys.argv[3]), read_erfa(sys.argv[4])
     drawn = [("Sun's apparent longitude", 1, 3), ("Sun's azimuth", 1, 0), ("Azimuth of Polaris", 2, 0)]
-    print(f'{"seconds of arc":28}{"book - ERFA":>16}{"series alone":>16}{"UT for ET alone":>18}')
+    print(f'{"seconds of arc":28}{"book - ERFA":>16}{"theory alone":>16}{"UT for ET alone":>18}')
     out = []
     for i, (name, body, angle) in enumerate(drawn):
         points = series(shots, body, angle, book, erfa)

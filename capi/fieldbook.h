@@ -1,5 +1,5 @@
 /* The field book for C: the functions of the static library libcapi.a (`rt staticlib capi`).
-   Every function is proved against docs/PROMISES.md. They keep nothing between two calls, take any
+   Each is proved, and docs/PROMISES.md says what that means. They keep nothing between two calls, take any
    numbers, and may be called by several threads at once. */
 #ifndef FIELDBOOK_H
 #define FIELDBOOK_H
