@@ -16,7 +16,7 @@ use Rattle.exact.proofs.Differences.{split, zs}
 use Rattle.exact.proofs.Division.{floor-mono}
 use Rattle.exact.proofs.Machine.{and-true, between-low, between-high, between-nat}
 use Rattle.calendar.specs.Date.{leapYear, months, total, monthLength, monthDays, yearDays, dayCount, isDate}
-use Rattle.calendar.specs.Time.{leapSecondDay, lastMillisecond, isTime, dayMillisecond, isDut1, sinceNoon, instant, millionths, Answer, accepted, refused, answer, InstantRange, MillionthsRange}
+use Rattle.calendar.specs.Time.{leapSecondDay, lastMillisecond, isTime, dayMillisecond, isDut1, sinceNoon, instant, millionths, InstantValues, accepted, refused, instantOf, InstantRange, MillionthsRange}
 use Rattle.calendar.specs.declared.CivilTime.{CivilTime}
 use Rattle.calendar.proofs.Count.{month-length, take-le, in-range}
 
@@ -88,12 +88,12 @@ record Tested (t : CivilTime) (n q : ℤ) : Type 0 where
   pub n-is : instant t ≡ n
   pub q-is : millionths (instant t) ≡ q
 
-tested : (t : CivilTime) (n q : ℤ) → answer t ≡ accepted n q → Tested t n q
-unfolding answer
+tested : (t : CivilTime) (n q : ℤ) → instantOf t ≡ accepted n q → Tested t n q
+unfolding instantOf
 tested t n q e = by (isDate (t .year) (t .month) (t .day)) refl (isTime (t .month) (t .day) (t .hour) (t .minute) (t .millisecond)) refl (isDut1 (t .dut1)) refl e
   where
     no : (k : ℕ) → refused (suc k) ≡ accepted n q → ⊥
-    no k e = let z : suc k ≡ 0 = ap (λ (a : Answer). a .refusal) e in omega arith
+    no k e = let z : suc k ≡ 0 = ap (λ (a : InstantValues). a .refusal) e in omega arith
 
     by : (d : Bool) → isDate (t .year) (t .month) (t .day) ≡ d → (m : Bool) → isTime (t .month) (t .day) (t .hour) (t .minute) (t .millisecond) ≡ m
         → (u : Bool) → isDut1 (t .dut1) ≡ u
@@ -102,9 +102,9 @@ tested t n q e = by (isDate (t .year) (t .month) (t .day)) refl (isTime (t .mont
     by true ed false em u eu e = absurd (no 2 e)
     by true ed true em false eu e = absurd (no 3 e)
     by true ed true em true eu e =
-        record { date = ed; time = em; dut1 = eu; n-is = ap (λ (a : Answer). a .n) e; q-is = ap (λ (a : Answer). a .q) e }
+        record { date = ed; time = em; dut1 = eu; n-is = ap (λ (a : InstantValues). a .n) e; q-is = ap (λ (a : InstantValues). a .q) e }
 
-pub accepted-range : (t : CivilTime) (n q : ℤ) → answer t ≡ accepted n q → InstantRange n × MillionthsRange q
+pub accepted-range : (t : CivilTime) (n q : ℤ) → instantOf t ≡ accepted n q → InstantRange n × MillionthsRange q
 accepted-range t n q e =
     let k = tested t n q e in
     let d = date-range (t .year) (t .month) (t .day) (k .date) in
@@ -118,5 +118,5 @@ accepted-range t n q e =
 pub millionths-le : (q : ℤ) → MillionthsRange q → natAbs q ≤ 1500000
 millionths-le q = rw (split q) (simp zs (omega arith))
 
-pub accepted-millionths : (t : CivilTime) (n q : ℤ) → answer t ≡ accepted n q → natAbs q ≤ 1500000
+pub accepted-millionths : (t : CivilTime) (n q : ℤ) → instantOf t ≡ accepted n q → natAbs q ≤ 1500000
 accepted-millionths t n q e = millionths-le q (accepted-range t n q e .1)

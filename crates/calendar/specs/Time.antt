@@ -3,9 +3,12 @@
 -- Assumes nothing.
 use Prim.Native.Nat.{ℕ, _+_, _*_, _≤_}
 use mathlib.Core.Bool.{Bool, cond, _&&_, _||_}
+use mathlib.Core.List.{List, [], _∷_}
 use lib.Dec.{eqb}
 use lib.IntN.{ℤ, pos, negsuc, natAbs, _+ℤ_, _-ℤ_, _*ℤ_}
 use lib.Signed.{_≤ℤ_}
+use Rattle.refusal.specs.Numbers.{numberOf}
+use Rattle.refusal.specs.Tests.{Test, test, decided}
 use Rattle.exact.specs.Century.{century}
 use Rattle.exact.specs.Division.{floorDiv}
 use Rattle.exact.specs.Range.{between}
@@ -14,7 +17,7 @@ use Rattle.calendar.specs.declared.CivilTime.{CivilTime}
 use Rattle.calendar.specs.declared.Clock.{Clock}
 use Rattle.calendar.specs.declared.Clock.the-variants.{Millisecond, NotATime}
 use Rattle.calendar.specs.declared.Instant.{Instant}
-use Rattle.calendar.specs.declared.Instant.the-variants.{Accepted, NoDate, NoTime, NoDut1}
+use Rattle.calendar.specs.declared.Instant.the-variants.{Accepted, Refused}
 
 -- 30 June or 31 December, on which the last minute may have a leap second
 unfoldable pub leapSecondDay : ℕ → ℕ → Bool
@@ -50,32 +53,33 @@ instant t =
 unfoldable pub millionths : ℤ → ℤ
 millionths n = floorDiv (pos 1000000 *ℤ n) century
 
--- what the seven numbers are answered with: the lowest refusal that applies, or 0 with N and q
-pub record Answer : Type 0 where
+-- what the seven numbers are answered with: 0 with N and q, or a refusal's number with zeros
+pub record InstantValues : Type 0 where
   pub refusal : ℕ
   pub n : ℤ
   pub q : ℤ
 
-abbrev pub refused : ℕ → Answer
+abbrev pub refused : ℕ → InstantValues
 refused k = record { refusal = k; n = pos 0; q = pos 0 }
 
-abbrev pub accepted : ℤ → ℤ → Answer
+abbrev pub accepted : ℤ → ℤ → InstantValues
 accepted n q = record { refusal = 0; n = n; q = q }
 
-unfoldable pub answer : CivilTime → Answer
-answer t =
-    cond (isDate (t .year) (t .month) (t .day))
-    (cond (isTime (t .month) (t .day) (t .hour) (t .minute) (t .millisecond))
-    (cond (isDut1 (t .dut1)) (accepted (instant t) (millionths (instant t))) (refused 4))
-    (refused 3))
-    (refused 2)
+-- what is asked of an instant, in the stated order
+abbrev pub instantTests : CivilTime → List Test
+instantTests t =
+    test (isDate (t .year) (t .month) (t .day)) 2
+    ∷ test (isTime (t .month) (t .day) (t .hour) (t .minute) (t .millisecond)) 3
+    ∷ test (isDut1 (t .dut1)) 4
+    ∷ []
+
+unfoldable pub instantOf : CivilTime → InstantValues
+instantOf t = decided (instantTests t) (accepted (instant t) (millionths (instant t))) refused
 
 -- 01's number and values of each case of the code's answer
-abbrev pub meaning : Instant → Answer
-meaning (Accepted n q) = accepted n q
-meaning NoDate = refused 2
-meaning NoTime = refused 3
-meaning NoDut1 = refused 4
+abbrev pub instantValues : Instant → InstantValues
+instantValues (Accepted n q) = accepted n q
+instantValues (Refused r) = refused (numberOf r)
 
 -- the millisecond of the day as the code answers it
 unfoldable pub clockOf : ℤ → ℤ → ℤ → ℤ → ℤ → Clock
@@ -96,6 +100,4 @@ MillionthsRange q = (pos 759986 ≤ℤ q) × (q ≤ℤ pos 1500000)
 
 abbrev pub InRange : Instant → Type 0
 InRange (Accepted n q) = InstantRange n × MillionthsRange q
-InRange NoDate = Unit {0}
-InRange NoTime = Unit {0}
-InRange NoDut1 = Unit {0}
+InRange (Refused r) = Unit {0}

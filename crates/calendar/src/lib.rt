@@ -4,7 +4,8 @@ ghost use Prim.Native.Nat.{_≤_, _<_};
 ghost use lib.IntN.{natAbs};
 ghost use lib.ListN.{take};
 ghost use Rattle.calendar.specs.Date.{leapYear, months, total, yearDays, dayOf, DayInRange};
-ghost use Rattle.calendar.specs.Time.{leapSecondDay, lastMillisecond, clockOf, ClockInRange, sinceNoon, millionths, InstantRange, MillionthsRange, answer, meaning, InRange};
+ghost use Rattle.calendar.specs.Time.{leapSecondDay, lastMillisecond, clockOf, ClockInRange, sinceNoon, millionths, InstantRange, MillionthsRange, instantOf, instantValues, InRange};
+use refusal::Refusal;
 
 // Fields 1 to 7 of the card: the date, the time of day in UTC, and DUT1 in milliseconds.
 pub struct CivilTime {
@@ -17,12 +18,10 @@ pub struct CivilTime {
     pub dut1: i64,
 }
 
-// What seven numbers are answered with: N and q, or why they name no instant.
+// What seven numbers are answered with: N and q, or why they name no instant, 2, 3 or 4.
 pub enum Instant {
     Accepted(i64, i64),
-    NoDate,
-    NoTime,
-    NoDut1,
+    Refused(Refusal),
 }
 
 // D of a date, or none.
@@ -151,17 +150,17 @@ fn millionths(n: i64) -> i64
 
 // The instant of any seven numbers: N and q, or the lowest refusal that applies.
 pub fn instant_of(t: CivilTime) -> Instant
-    ensures { λ r. ⌜ (meaning r ≡ answer t) × InRange r ⌝ }
+    ensures { λ r. ⌜ (instantValues r ≡ instantOf t) × InRange r ⌝ }
 {
     let Day::Counted(day) = day_count(t.year, t.month, t.day) else {
-        return Instant::NoDate;
+        return Instant::Refused(Refusal::NoDate);
     };
     let Clock::Millisecond(ms) = day_millisecond(t.month, t.day, t.hour, t.minute, t.millisecond)
     else {
-        return Instant::NoTime;
+        return Instant::Refused(Refusal::NoTime);
     };
     if !exact::between(-900, t.dut1, 900) {
-        return Instant::NoDut1;
+        return Instant::Refused(Refusal::NoDut1);
     }
     let n = since_1900(day, ms, t.dut1);
     Instant::Accepted(n, millionths(n))

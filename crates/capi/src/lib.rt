@@ -1,14 +1,23 @@
-// The door for products in C and Rust: the static library's functions, on plain numbers and lent words. capi/fieldbook.h declares them.
-// They trust no caller but for the lent words, which must be four, and keep nothing from one call to the next.
+// The door for products in C and Rust: the static library's functions, on plain numbers and by value. capi/fieldbook.h declares them.
+// They trust no caller, write to no memory of one, and keep nothing from one call to the next.
 ghost use mathlib.Core.Path.{_≡_};
-ghost use Rattle.fieldbook.specs.Shot.{shotOf, valuesOf};
-ghost use Rattle.capi.specs.Door.{numbers, anglesAfter};
+ghost use Rattle.fieldbook.specs.Shot.{InTurn, shotOf};
+ghost use Rattle.capi.specs.Door.{numbers, valuesIn};
 use card::Numbers;
 use fieldbook::Outcome;
 
-// The shot with ten plain numbers, any numbers, in the units of document 01's table of fields. Answers the refusal's number, 0 for none.
-// An answered shot writes azimuth, zenith angle, hour angle and s into the lent words, in units of 0.0001 second of arc; a refused one
-// writes nothing.
+// What a shot answers, laid out as in C: the refusal's number, 0 for none, and azimuth, zenith angle, hour angle and s, in units of
+// 0.0001 second of arc. A refusal's angles are 0.
+#[repr(C)]
+pub struct Answer {
+    pub refusal: u64,
+    pub azimuth: u64,
+    pub zenith: u64,
+    pub hour_angle: u64,
+    pub longitude: u64,
+}
+
+// The shot with ten plain numbers, any numbers, in the units of document 01's table of fields.
 #[no_mangle]
 pub extern "C" fn fieldbook_shot(
     year: i64,
@@ -21,10 +30,8 @@ pub extern "C" fn fieldbook_shot(
     latitude: i64,
     longitude: i64,
     body: i64,
-    angles: &mut [u64; 4],
-) -> u64
-    ensures { λ r. ⌜ r ≡ valuesOf (shotOf (numbers year month day hour minute millisecond dut1 latitude longitude body)) .refusal ⌝ }
-    ensures { λ _. ⌜ now (angles .exit) ≡ anglesAfter (valuesOf (shotOf (numbers year month day hour minute millisecond dut1 latitude longitude body))) (now (angles .entry)) ⌝ }
+) -> Answer
+    ensures { λ r. ⌜ (valuesIn r ≡ shotOf (numbers year month day hour minute millisecond dut1 latitude longitude body)) × InTurn (valuesIn r) ⌝ }
 {
     let given = Numbers {
         year: year,
@@ -39,10 +46,19 @@ pub extern "C" fn fieldbook_shot(
         body: body,
     };
     match fieldbook::shot(given) {
-        Outcome::Answered(a) => {
-            *angles = [a.azimuth, a.zenith, a.hour_angle, a.longitude];
-            0
-        }
-        Outcome::Refused(refusal) => fieldbook::refusal_number(refusal),
+        Outcome::Answered(a) => Answer {
+            refusal: 0,
+            azimuth: a.azimuth,
+            zenith: a.zenith,
+            hour_angle: a.hour_angle,
+            longitude: a.longitude,
+        },
+        Outcome::Refused(refusal) => Answer {
+            refusal: refusal::number_of(refusal),
+            azimuth: 0,
+            zenith: 0,
+            hour_angle: 0,
+            longitude: 0,
+        },
     }
 }

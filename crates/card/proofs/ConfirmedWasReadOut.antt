@@ -1,161 +1,160 @@
--- A CONFIRMED NUMBER WAS READ OUT. After any calls from a fresh card, in any order and of any number: where field f stands confirmed with n,
--- n was heard for f, after that its text was written out by an accepted reading, and after that it was confirmed, with nothing heard for f
--- since that hearing. The one exception is the 0 with which DUT1 starts, as long as nothing was heard for DUT1. Assumes nothing.
-use Prim.Native.Nat.{ℕ, suc, _-_}
+-- A CONFIRMED NUMBER WAS READ OUT. After any calls from any card, in any order and of any number: where field f stands confirmed with n, n was
+-- heard for f, after that its text was written out by an accepted reading, and after that it was confirmed, with nothing heard for f since that
+-- hearing. What of the three did not come among the calls stood on the card already: on a fresh card, the 0 of DUT1 alone. Assumes nothing.
+use Prim.Native.Nat.{suc}
 use mathlib.Core.Path.{_≡_, refl, sym, ap, subst, _∙_}
 use mathlib.Core.Bool.{Bool, true, false}
 use mathlib.Core.Logic.{_⊎_, inl, inr, ⊎-elim}
-use mathlib.Core.List.{List, [], _∷_, _++_, append-assoc, append-nil, List·Memᴰ·not-nil, List·Memᴰ·append-cases}
+use mathlib.Core.List.{List, [], _∷_, List·Memᴰ·not-nil, List·Memᴰ·head, List·Memᴰ·cases-cons}
 use lib.Dec.{eqb}
-use lib.IntN.{ℤ, pos, natAbs}
+use lib.IntN.{ℤ, pos}
 use lib.ListN.{replicate, getD-replicate}
-use lib.Seq.{getD-set-other, append-snoc}
+use lib.Seq.{getD-set-other}
 use borrow.Author.Tests.{eqb-true, eqb-false}
 use Rattle.digits.specs.Text.{text}
 use Rattle.digits.specs.Writing.{over}
 use Rattle.card.specs.declared.Field.{Field}
 use Rattle.card.specs.declared.Field.the-variants.{Empty, Heard, Read, Confirmed}
-use Rattle.card.specs.declared.Place.{Place}
-use Rattle.card.specs.declared.Place.the-variants.{At, Nowhere}
-use Rattle.card.specs.Fields.{fieldCount, DUT1, placeOf, slot, fieldAt, fieldIn, fieldOf, freshCard}
-use Rattle.card.specs.Calls.{accepted, bufferAfter}
-use Rattle.card.specs.History.{Call, hear, read, confirm, refusal, afterAll, NothingHeard, HeardReadConfirmed, StartingZero}
-use Rattle.card.proofs.OneCall.{Effect, heard, readOut, confirmed, kept, effect}
-use Rattle.card.proofs.Histories.{one-more, full-length}
-use Rattle.card.proofs.FieldNumbers.{place-below, place-number}
+use Rattle.card.specs.declared.Card.{Card}
+use Rattle.card.specs.Fields.{fieldCount, isField, DUT1, placeOf, slot, fieldAt, fieldOf, Full, freshCard}
+use Rattle.card.specs.Calls.{bufferAfter}
+use Rattle.card.specs.History.{Call, hear, confirm, after, refusal, afterAll, NothingHeard, ConfirmedAmong, ReadOutAmong, HeardAmong, Story, stoodConfirmed, stoodRead, stoodHeard, wasHeard, StartingZero}
+use Rattle.card.proofs.OneCall.{Effect, heard, readOut, confirmed, kept, effect, after-length}
+use Rattle.card.proofs.FieldNumbers.{field-number, place-below, field-found, no-field}
+use Rattle.card.proofs.Clash.{clash}
 
--- a call came after calls of which P holds, and nothing was heard for f since
-record Latest (f : ℤ) (call : Call) (P : List Call → Type 0) (calls : List Call) : Type 0 where
-  before : List Call
-  since : List Call
-  order : calls ≡ before ++ call ∷ since
-  then : P before
-  quiet : NothingHeard f since
+no-calls : (f : ℤ) → NothingHeard f []
+no-calls f c n m = absurd (List·Memᴰ·not-nil m)
 
-newest : (f : ℤ) (call x : Call) (P : List Call → Type 0) (calls : List Call) → x ≡ call → P calls → Latest f call P (calls ++ x ∷ [])
-newest f call x P calls e p = record {
-  before = calls;
-  since = [];
-  order = ap (λ y. calls ++ (y ∷ [])) e;
-  then = p;
-  quiet = λ c n m. absurd (List·Memᴰ·not-nil m);
-}
+-- one call more, in front of the others
+module _ (c : Card) (f : ℤ) (x : Call) where
+  -- a call that leaves the field: what came after it still did
+  module _ (h : NothingHeard f (x ∷ [])) where
+    quiet-longer : {l : List Call} → NothingHeard f l → NothingHeard f (x ∷ l)
+    quiet-longer k d n m = ⊎-elim (λ e. h d n (List·Memᴰ·head e)) (k d n) (List·Memᴰ·cases-cons m)
 
-still-nothing : (f : ℤ) (x : Call) (calls : List Call) → NothingHeard f (x ∷ []) → NothingHeard f calls → NothingHeard f (calls ++ x ∷ [])
-still-nothing f x calls h k c n m = ⊎-elim (k c n) (h c n) (List·Memᴰ·append-cases calls m)
-
-still : {f : ℤ} {call : Call} {P : List Call → Type 0} {calls : List Call} (x : Call) → NothingHeard f (x ∷ []) → Latest f call P calls
-    → Latest f call P (calls ++ x ∷ [])
-still {f} {call} x h r = record {
-  before = r .before;
-  since = r .since ++ x ∷ [];
-  order = ap (λ l. l ++ x ∷ []) (r .order) ∙ append-assoc (r .before) (call ∷ r .since) (x ∷ []);
-  then = r .then;
-  quiet = still-nothing f x (r .since) h (r .quiet);
-}
-
--- the number n of field f, by how far it has come
-abbrev WasHeard : ℤ → ℤ → List Call → Type 0
-WasHeard f n = Latest f (hear f n) (λ before. refusal (afterAll freshCard before) (hear f n) ≡ accepted)
-
-record ReadOutAfter (f n : ℤ) (buffer : List ℕ) (place : ℕ) (before : List Call) : Type 0 where
-  unrefused : refusal (afterAll freshCard before) (read f buffer place) ≡ accepted
-  shown : bufferAfter (afterAll freshCard before) f buffer place ≡ over buffer place (text n)
-  wasHeard : WasHeard f n before
-
-abbrev WasReadOut : ℤ → ℤ → List Call → Type 0
-WasReadOut f n calls = (buffer : List ℕ) × (place : ℕ) × Latest f (read f buffer place) (ReadOutAfter f n buffer place) calls
-
-abbrev WasConfirmed : ℤ → ℤ → List Call → Type 0
-WasConfirmed f n =
-    Latest f (confirm f) (λ before. (refusal (afterAll freshCard before) (confirm f) ≡ accepted) × WasReadOut f n before)
-
--- what the calls must have been, by the state of field f after them
-abbrev Story : List Call → ℤ → Field → Type 0
-Story calls f Empty = Unit
-Story calls f (Heard n) = WasHeard f n calls
-Story calls f (Read n) = WasReadOut f n calls
-Story calls f (Confirmed n) = StartingZero calls f n ⊎ WasConfirmed f n calls
-
--- a call that leaves the field leaves its story
-kept-story : (calls : List Call) (f : ℤ) (x : Call) (v : Field) → NothingHeard f (x ∷ []) → Story calls f v → Story (calls ++ x ∷ []) f v
-kept-story calls f x Empty h s = s
-kept-story calls f x (Heard n) h s = still x h s
-kept-story calls f x (Read n) h s = (s .0, s .1, still x h (s .2))
-kept-story calls f x (Confirmed n) h s =
-    ⊎-elim
-    (λ z. inl (record { field = z .field; number = z .number; nothingHeard = still-nothing f x calls h (z .nothingHeard) }))
-    (λ r. inr (still x h r))
-    s
-
--- one call more
-next : (calls : List Call) (f : ℤ) (x : Call) {v : Field} → Effect (afterAll freshCard calls) f x v → Story calls f (fieldOf (afterAll freshCard calls) f)
-    → Story (calls ++ x ∷ []) f v
-next calls f x (heard n e r w) s =
-    let q = subst (λ y. refusal (afterAll freshCard calls) y ≡ accepted) e r in
-    subst (Story (calls ++ x ∷ []) f) (sym w) (newest f (hear f n) x _ calls e q)
-next calls f x (readOut n buffer place e r b h w) s =
-    let t : WasHeard f n calls = subst (Story calls f) h s in
-    let q = subst (λ y. refusal (afterAll freshCard calls) y ≡ accepted) e r in
-    subst (Story (calls ++ x ∷ []) f) (sym w)
-    (buffer, place, newest f (read f buffer place) x _ calls e (record { unrefused = q; shown = b; wasHeard = t }))
-next calls f x (confirmed n e r h w) s =
-    let t : WasReadOut f n calls = subst (Story calls f) h s in
-    let q = subst (λ y. refusal (afterAll freshCard calls) y ≡ accepted) e r in
-    subst (Story (calls ++ x ∷ []) f) (sym w) (inr (newest f (confirm f) x _ calls e (q, t)))
-next calls f x (kept h w) s = subst (Story (calls ++ x ∷ []) f) (sym w) (kept-story calls f x (fieldOf (afterAll freshCard calls) f) h s)
-
--- a fresh card: only DUT1 holds a number
-fresh-at : (f : ℤ) (i : ℕ) (b : Bool) → At i ≡ placeOf f → eqb i (natAbs DUT1 - 1) ≡ b → Story [] f (fieldAt freshCard i)
-fresh-at f i true p t =
-    let e = eqb-true i (natAbs DUT1 - 1) t in
-    subst (λ j. Story [] f (fieldAt freshCard j)) (sym e)
-    (inl (record { field = place-number f p ∙ ap (λ j. pos (suc j)) e; number = refl; nothingHeard = λ c n m. absurd (List·Memᴰ·not-nil m) }))
-fresh-at f i false p t =
-    let l = place-below f p in
-    let o = getD-set-other (replicate fieldCount (slot Empty)) (natAbs DUT1 - 1) i (slot (Confirmed (pos 0))) (slot Empty) (eqb-false i (natAbs DUT1 - 1) t) in
-    subst (λ s. Story [] f (s .field)) (sym (o ∙ getD-replicate fieldCount i (slot Empty) (slot Empty) l)) tt
-
-fresh-story : (f : ℤ) (p : Place) → p ≡ placeOf f → Story [] f (fieldIn p freshCard)
-fresh-story f Nowhere e = tt
-fresh-story f (At i) e = fresh-at f i (eqb i (natAbs DUT1 - 1)) e refl
-
--- any calls
-story : (past calls : List Call) (f : ℤ) → Story past f (fieldOf (afterAll freshCard past) f)
-    → Story (past ++ calls) f (fieldOf (afterAll freshCard (past ++ calls)) f)
-story past [] f s = rw append-nil s
-story past (x ∷ calls) f s =
-    let c = afterAll freshCard past in
-    subst (λ k. Story k f (fieldOf (afterAll freshCard k) f)) (append-snoc past x calls)
-    (story (past ++ x ∷ []) calls f
-    (subst (λ d. Story (past ++ x ∷ []) f (fieldOf d f)) (sym (one-more freshCard past x))
-    (next past f x (effect c f x (full-length past)) s)))
-
--- the three calls in one line
-in-a-row : (calls : List Call) (f n : ℤ) → WasConfirmed f n calls → HeardReadConfirmed calls f n
-in-a-row calls f n w =
-    let r = w .then .1 .2 in
-    let h = r .then .wasHeard in
-    let buffer = w .then .1 .0 in
-    let place = w .then .1 .1 in
-    let so-far = r .order ∙ ap (λ l. l ++ read f buffer place ∷ r .since) (h .order) in
-    record {
-      before = h .before;
-      unread = h .since;
-      buffer = buffer;
-      place = place;
-      unconfirmed = r .since;
-      since = w .since;
-      order = w .order ∙ ap (λ l. l ++ confirm f ∷ w .since) so-far;
-      heard = h .then;
-      readOut = subst (λ l. refusal (afterAll freshCard l) (read f buffer place) ≡ accepted) (h .order) (r .then .unrefused);
-      confirmed = subst (λ l. refusal (afterAll freshCard l) (confirm f) ≡ accepted) so-far (w .then .0);
-      shown = subst (λ l. bufferAfter (afterAll freshCard l) f buffer place ≡ over buffer place (text n)) (h .order) (r .then .shown);
-      nothingSince = (h .quiet, r .quiet, w .quiet);
+    confirmed-longer : {calls : List Call} → ConfirmedAmong (after c x) f calls → ConfirmedAmong c f (x ∷ calls)
+    unfolding afterAll
+    confirmed-longer r = record {
+      earlier = x ∷ r .earlier;
+      later = r .later;
+      order = ap (λ l. x ∷ l) (r .order);
+      accepts = r .accepts;
+      quiet = (quiet-longer (r .quiet .0), r .quiet .1);
     }
 
-pub confirmed-was-read-out : (calls : List Call) (f n : ℤ) → fieldOf (afterAll freshCard calls) f ≡ Confirmed n
-    → StartingZero calls f n ⊎ HeardReadConfirmed calls f n
+    read-longer : {n : ℤ} {calls : List Call} → ReadOutAmong (after c x) f n calls → ReadOutAmong c f n (x ∷ calls)
+    unfolding afterAll
+    read-longer r = record {
+      earlier = x ∷ r .earlier;
+      buffer = r .buffer;
+      place = r .place;
+      later = r .later;
+      order = ap (λ l. x ∷ l) (r .order);
+      accepts = r .accepts;
+      shown = r .shown;
+      quiet = quiet-longer (r .quiet);
+      confirmed = r .confirmed;
+    }
+
+  heard-longer : {n : ℤ} {calls : List Call} → HeardAmong (after c x) f n calls → HeardAmong c f n (x ∷ calls)
+  unfolding afterAll
+  heard-longer r = record {
+    earlier = x ∷ r .earlier;
+    later = r .later;
+    order = ap (λ l. x ∷ l) (r .order);
+    accepts = r .accepts;
+    readOut = r .readOut;
+  }
+
+-- a call that brings the field on is the first of its kind
+confirmed-first : {c : Card} {f : ℤ} {x : Call} {calls : List Call} → x ≡ confirm f → refusal c x ≡ 0 → NothingHeard f calls
+    → ConfirmedAmong c f (x ∷ calls)
 unfolding afterAll
-confirmed-was-read-out calls f n e =
-    ⊎-elim inl (λ w. inr (in-a-row calls f n w)) (subst (Story calls f) e (story [] calls f (fresh-story f (placeOf f) refl)))
+confirmed-first {c} {f} {calls = calls} e r q = record {
+  earlier = [];
+  later = calls;
+  order = ap (λ y. y ∷ calls) e;
+  accepts = subst (λ y. refusal c y ≡ 0) e r;
+  quiet = (no-calls f, q);
+}
+
+-- the effect of the first call, and the story of the others
+tell : (c : Card) (f n : ℤ) (x : Call) {calls : List Call} {v : Field} → v ≡ fieldOf (after c x) f → Effect c f x v → Story (after c x) f n calls
+    → Story c f n (x ∷ calls)
+unfolding afterAll
+tell c f n x g w (wasHeard r) = wasHeard (heard-longer c f x r)
+tell c f n x g (heard m e r t w) (stoodConfirmed k q) = clash (cc)
+tell c f n x g (heard m e r t w) (stoodRead k q) = clash (cc)
+tell c f n x {calls} g (heard m e r t w) (stoodHeard k q) =
+    let y : x ≡ hear f n = (let z : m ≡ n = cc in e ∙ ap (hear f) z) in
+    wasHeard
+    (record {
+      earlier = [];
+      later = calls;
+      order = ap (λ y. y ∷ calls) y;
+      accepts = subst (λ y. refusal c y ≡ 0) y r;
+      readOut = subst (λ y. ReadOutAmong (after c y) f n calls) y q;
+    })
+tell c f n x g (readOut m buffer place e r b h w) (stoodConfirmed k q) = clash (cc)
+tell c f n x {calls} g (readOut m buffer place e r b h w) (stoodRead k q) =
+    let z : m ≡ n = cc in
+    stoodHeard (h ∙ ap Heard z)
+    (record {
+      earlier = [];
+      buffer = buffer;
+      place = place;
+      later = calls;
+      order = ap (λ y. y ∷ calls) e;
+      accepts = subst (λ y. refusal c y ≡ 0) e r;
+      shown = subst (λ k. bufferAfter c f buffer place ≡ over buffer place (text k)) z b;
+      quiet = no-calls f;
+      confirmed = subst (λ y. ConfirmedAmong (after c y) f calls) e q;
+    })
+tell c f n x g (readOut m buffer place e r b h w) (stoodHeard k q) = clash (cc)
+tell c f n x g (confirmed m e r h w) (stoodConfirmed k q) =
+    let z : m ≡ n = cc in stoodRead (h ∙ ap Read z) (confirmed-first e r q)
+tell c f n x g (confirmed m e r h w) (stoodRead k q) = clash (cc)
+tell c f n x g (confirmed m e r h w) (stoodHeard k q) = clash (cc)
+tell c f n x g (kept h w) (stoodConfirmed k q) = stoodConfirmed (sym w ∙ g ∙ k) (quiet-longer c f x h q)
+tell c f n x g (kept h w) (stoodRead k q) = stoodRead (sym w ∙ g ∙ k) (confirmed-longer c f x h q)
+tell c f n x g (kept h w) (stoodHeard k q) = stoodHeard (sym w ∙ g ∙ k) (read-longer c f x h q)
+
+-- FROM ANY CARD
+pub confirmed-was-read-out : (c : Card) (calls : List Call) (f n : ℤ) → Full c → fieldOf (afterAll c calls) f ≡ Confirmed n → Story c f n calls
+unfolding afterAll
+confirmed-was-read-out c [] f n l e = stoodConfirmed e (no-calls f)
+confirmed-was-read-out c (x ∷ calls) f n l e =
+    tell c f n x refl (effect c f x l) (confirmed-was-read-out (after c x) calls f n (after-length c x ∙ l) e)
+
+-- FROM A FRESH CARD, on which only DUT1 holds a number
+pub data OnFresh (f : ℤ) (v : Field) : Type 0 where
+  empty : v ≡ Empty → OnFresh f v
+  zero-dut1 : f ≡ DUT1 → v ≡ Confirmed (pos 0) → OnFresh f v
+
+fresh-at : (f : ℤ) (b : Bool) → isField f ≡ true → eqb (placeOf f) (placeOf DUT1) ≡ b → OnFresh f (fieldAt freshCard (placeOf f))
+fresh-at f true p t =
+    let e = eqb-true (placeOf f) (placeOf DUT1) t in zero-dut1 (field-number f p ∙ ap (λ j. pos (suc j)) e) (ap (fieldAt freshCard) e)
+fresh-at f false p t =
+    let empties = replicate fieldCount (slot Empty) in
+    let o = getD-set-other empties (placeOf DUT1) (placeOf f) (slot (Confirmed (pos 0))) (slot Empty) (eqb-false (placeOf f) (placeOf DUT1) t) in
+    empty (ap (λ s. s .field) (o ∙ getD-replicate fieldCount (placeOf f) (slot Empty) (slot Empty) (place-below f p)))
+
+pub on-fresh : (f : ℤ) (b : Bool) → isField f ≡ b → OnFresh f (fieldOf freshCard f)
+on-fresh f false e = empty (sym (no-field f e freshCard))
+on-fresh f true e = subst (OnFresh f) (field-found f e freshCard) (fresh-at f (eqb (placeOf f) (placeOf DUT1)) e refl)
+
+from-fresh : (calls : List Call) (f n : ℤ) → OnFresh f (fieldOf freshCard f) → Story freshCard f n calls
+    → StartingZero calls f n ⊎ HeardAmong freshCard f n calls
+from-fresh calls f n o (wasHeard r) = inr r
+from-fresh calls f n (empty e) (stoodConfirmed k q) = clash (cc)
+from-fresh calls f n (empty e) (stoodRead k q) = clash (cc)
+from-fresh calls f n (empty e) (stoodHeard k q) = clash (cc)
+from-fresh calls f n (zero-dut1 d e) (stoodConfirmed k q) = inl (record { field = d; number = cc; nothingHeard = q })
+from-fresh calls f n (zero-dut1 d e) (stoodRead k q) = clash (cc)
+from-fresh calls f n (zero-dut1 d e) (stoodHeard k q) = clash (cc)
+
+pub fresh-was-read-out : (calls : List Call) (f n : ℤ) → fieldOf (afterAll freshCard calls) f ≡ Confirmed n
+    → StartingZero calls f n ⊎ HeardAmong freshCard f n calls
+fresh-was-read-out calls f n e =
+    from-fresh calls f n (on-fresh f (isField f) refl) (confirmed-was-read-out freshCard calls f n refl e)

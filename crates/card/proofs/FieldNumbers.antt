@@ -1,53 +1,45 @@
--- Where a field number stands on the card. A signed local holds bits: what the code reads is `toZ w64 (ofZ w64 z)`, and `toZ-ofZ` turns that
--- into z where z fits. Assumes nothing.
-use Prim.Native.Nat.{ℕ, suc, _-_, _<_, _≤_}
+-- Field numbers, and where their fields stand on the card. Assumes nothing.
+use Prim.Native.Nat.{ℕ, suc, _-_, _<_}
 use native.Mathlib.Omega.{arith}
-use mathlib.Core.Path.{_≡_, refl, sym, ap, subst, _∙_}
-use mathlib.Core.Bool.{Bool, true, false, cond, _||_}
+use mathlib.Core.Path.{_≡_, sym, ap, subst, _∙_}
+use mathlib.Core.Bool.{true, false}
 use lib.Dec.{T}
-use lib.IntN.{ℤ, pos, negsuc, natAbs}
-use lib.Signed.{ltZ, nonNeg}
-use borrow.Author.Tests.{ltb-false}
+use lib.IntN.{ℤ, pos, natAbs}
+use lib.Signed.{nonNeg}
 use mir.Syntax.{w64}
-use mir.Facts.{toZ-ofZ}
-use mir.Val.{Fits, SFits, toZ, ofZ}
-use Rattle.card.specs.declared.Place.{Place}
-use Rattle.card.specs.declared.Place.the-variants.{At, Nowhere}
-use Rattle.card.specs.Fields.{fieldCount, placeOf}
-use Rattle.card.proofs.Clash.{clash}
+use mir.Val.{Fits, SFits}
+use borrow.Author.Tests.{le-leb}
+use Rattle.exact.specs.Range.{between}
+use Rattle.exact.proofs.Machine.{between-nat, abs-word}
+use Rattle.card.specs.declared.Field.the-variants.{Empty}
+use Rattle.card.specs.declared.Card.{Card}
+use Rattle.card.specs.Fields.{fieldCount, isField, placeOf, fieldAt, fieldOf}
 
--- what is not below 1 is a natural number above 0
-pub at-least-one : (z : ℤ) → ltZ z (pos 1) ≡ false → T (nonNeg z) × (1 ≤ natAbs z)
-at-least-one (pos n) e = (tt, ltb-false n 1 e)
-at-least-one (negsuc n) e = absurd (subst T e tt)
+-- a field number says its place, which is one of the card's
+module _ (f : ℤ) (e : isField f ≡ true) where
+  pub field-number : f ≡ pos (suc (placeOf f))
+  field-number = let r = between-nat 1 fieldCount f e in r .0 ∙ ap pos (omega arith)
 
-pub abs-fits : (z : ℤ) → SFits w64 z → Fits w64 (natAbs z)
-abs-fits (pos n) f = record { fits = omega (arith, f .sfits) }
-abs-fits (negsuc n) f = record { fits = omega (arith, f .sfits) }
+  pub place-below : placeOf f < fieldCount
+  place-below = let r = between-nat 1 fieldCount f e in omega arith
 
--- the place that was found for a field number's bits is the number's
-pub found : {f : ℤ} {p q : Place} → SFits w64 f → p ≡ q → p ≡ placeOf (toZ w64 (ofZ w64 f)) → q ≡ placeOf f
-found {f} fits e g = sym e ∙ g ∙ ap placeOf (toZ-ofZ fits)
+  -- and can be counted with
+  pub field-word : SFits w64 f → T (nonNeg f) × Fits w64 (natAbs f)
+  field-word fits = (subst (λ z. T (nonNeg z)) (sym field-number) tt, abs-word f fits)
 
--- what the tests of `placeOf` say where there is a place
-inside : (a b : Bool) {i m : ℕ} → At i ≡ cond (a || b) Nowhere (At m) → (a ≡ false) × (b ≡ false) × (i ≡ m)
-inside true b e = clash (cc)
-inside false true e = clash (cc)
-inside false false e = (refl, refl, cc)
+  pub field-found : (c : Card) → fieldAt c (placeOf f) ≡ fieldOf c f
+  unfolding fieldOf
+  field-found c = rw e
 
-at-most : (z : ℤ) → ltZ z (pos 1) ≡ false → ltZ (pos fieldCount) z ≡ false → natAbs z - 1 < fieldCount
-at-most (pos n) l e = let h = ltb-false fieldCount n e in omega arith
-at-most (negsuc n) l e = absurd (subst T l tt)
+pub no-field : (f : ℤ) → isField f ≡ false → (c : Card) → Empty ≡ fieldOf c f
+unfolding fieldOf
+no-field f e c = rw e
 
-above : (z : ℤ) {i : ℕ} → ltZ z (pos 1) ≡ false → i ≡ natAbs z - 1 → z ≡ pos (suc i)
-above (pos n) {i} l e = let h = ltb-false n 1 l in ap pos (omega arith)
-above (negsuc n) l e = absurd (subst T l tt)
-
--- a place is one of the card's, and says the field number
-module _ (f : ℤ) {i : ℕ} (at : At i ≡ placeOf f) where
-  pub place-below : i < fieldCount
-  place-below =
-      let t = inside (ltZ f (pos 1)) (ltZ (pos fieldCount) f) at in let h = at-most f (t .0) (t .1) in omega (arith, t .2)
-
-  pub place-number : f ≡ pos (suc i)
-  place-number = let t = inside (ltZ f (pos 1)) (ltZ (pos fieldCount) f) at in above f (t .0) (t .2)
+-- each place is a field's
+pub at-place : (c : Card) (i : ℕ) → i < fieldCount → fieldAt c i ≡ fieldOf c (pos (suc i))
+unfolding fieldOf between
+at-place c i h =
+    let l = le-leb 1 (suc i) (omega arith) in
+    let m = le-leb (suc i) fieldCount h in
+    let p : i ≡ suc i - 1 = omega arith in
+    rw (l, m) (ap (fieldAt c) p)

@@ -2,11 +2,12 @@
 pub mod ConfirmedWasReadOut
 pub mod UnreadNeverConfirmed
 pub mod ShotNumbersWereReadOut
+pub mod HeldNumbersAreSmall
+pub mod ReadingsAreShort
 pub mod AllConfirmed
+pub mod Answers
 pub mod Clash
-pub mod Confirmings
 pub mod FieldNumbers
-pub mod Hearings
 pub mod Histories
 pub mod OneCall
-pub mod Readings
+pub mod States

@@ -1,111 +1,97 @@
 -- What hearing, reading and confirming answer, for every card and all arguments (document 01, "The card" and "Refusal numbers"): the refusal
--- number, the card and the buffer afterwards. Definitions; assumes nothing.
+-- number, 0 where the call is accepted, the card and the buffer afterwards. A refusal changes neither. Definitions; assumes nothing.
 use Prim.Native.Nat.{ℕ}
-use mathlib.Core.Bool.{Bool, cond, _||_}
-use mathlib.Core.List.{List}
+use mathlib.Core.Bool.{Bool}
+use mathlib.Core.List.{List, [], _∷_, _++_}
 use lib.IntN.{ℤ, pos, negℤ}
-use lib.Signed.{ltZ}
 use lib.ListN.{length}
+use Rattle.refusal.specs.Numbers.{numberOf, verdictNumber}
+use Rattle.refusal.specs.Tests.{Test, test, decided}
+use Rattle.exact.specs.Range.{between}
 use Rattle.digits.specs.Text.{text}
-use Rattle.digits.specs.Writing.{fits, bufferWith}
+use Rattle.digits.specs.Writing.{fits, over}
 use Rattle.card.specs.declared.Field.{Field}
 use Rattle.card.specs.declared.Field.the-variants.{Empty, Heard, Read, Confirmed}
 use Rattle.card.specs.declared.Card.{Card}
-use Rattle.card.specs.declared.Place.{Place}
-use Rattle.card.specs.declared.Place.the-variants.{At, Nowhere}
-use Rattle.card.specs.declared.Held.{Held}
-use Rattle.card.specs.declared.Held.the-variants.{Number, Nothing}
 use Rattle.card.specs.declared.Answer.{Answer}
+use Rattle.card.specs.declared.Reading.{Reading}
+use Rattle.card.specs.declared.Reading.the-variants.{Written, Refused}
 use Rattle.card.specs.declared.ReadAnswer.{ReadAnswer}
-use Rattle.card.specs.Fields.{placeOf, fieldAt, fieldOf, put}
+use Rattle.card.specs.Fields.{isHeld, isRead, numberIn, isField, placeOf, fieldOf, put}
 
--- document 01's refusal numbers; 0 where a call is not refused
-abbrev pub accepted : ℕ
-accepted = 0
+-- what hearing and confirming answer
+pub record AnswerValues : Type 0 where
+  pub refusal : ℕ
+  pub card : Card
 
-abbrev pub noSuchField : ℕ
-noSuchField = 9
+abbrev pub valuesOf : Answer → AnswerValues
+valuesOf a = record { refusal = verdictNumber (a .verdict); card = a .card }
 
-abbrev pub emptyField : ℕ
-emptyField = 10
+abbrev pub accepted : Card → AnswerValues
+accepted c = record { refusal = 0; card = c }
 
-abbrev pub noRoom : ℕ
-noRoom = 11
+abbrev pub refused : Card → ℕ → AnswerValues
+refused c k = record { refusal = k; card = c }
 
-abbrev pub notRead : ℕ
-notRead = 12
+-- what reading answers: also the length of the text, 0 where it is refused
+pub record ReadValues : Type 0 where
+  pub refusal : ℕ
+  pub length : ℕ
+  pub card : Card
 
-abbrev pub tooLarge : ℕ
-tooLarge = 13
+abbrev pub readingValues : Reading → Card → ReadValues
+readingValues (Written k) c = record { refusal = 0; length = k; card = c }
+readingValues (Refused r) c = record { refusal = numberOf r; length = 0; card = c }
 
--- what a call answers: the refusal number and the card afterwards. A refused call answers the card as it was
-abbrev pub answer : ℕ → Card → Answer
-answer refusal c = record { refusal = refusal; card = c }
+abbrev pub readValuesOf : ReadAnswer → ReadValues
+readValuesOf a = readingValues (a .reading) (a .card)
+
+abbrev pub writtenOut : ℕ → Card → ReadValues
+writtenOut k c = record { refusal = 0; length = k; card = c }
+
+abbrev pub notWritten : Card → ℕ → ReadValues
+notWritten c k = record { refusal = k; length = 0; card = c }
 
 -- HEARING. A number from -9,999,999 to 9,999,999 is put into the field as heard, whatever stood there
 abbrev pub largest : ℕ
 largest = 9999999
 
-abbrev pub isTooLarge : ℤ → Bool
-isTooLarge z = ltZ z (negℤ (pos largest)) || ltZ (pos largest) z
+abbrev pub canBeHeard : ℤ → Bool
+canBeHeard z = between (negℤ (pos largest)) z (pos largest)
 
-abbrev pub hearingAt : Place → Card → ℤ → Answer
-hearingAt Nowhere c z = answer noSuchField c
-hearingAt (At i) c z = cond (isTooLarge z) (answer tooLarge c) (answer accepted (put c i (Heard z)))
+abbrev pub hearTests : ℤ → ℤ → List Test
+hearTests f z = test (isField f) 9 ∷ test (canBeHeard z) 13 ∷ []
 
-abbrev pub hearing : Card → ℤ → ℤ → Answer
-hearing c f z = hearingAt (placeOf f) c z
+abbrev pub hearing : Card → ℤ → ℤ → AnswerValues
+hearing c f z = decided (hearTests f z) (accepted (put c (placeOf f) (Heard z))) (refused c)
 
 -- CONFIRMING turns read into confirmed
-abbrev pub confirmingField : Field → Card → ℕ → Answer
-confirmingField Empty c i = answer notRead c
-confirmingField (Heard z) c i = answer notRead c
-confirmingField (Read z) c i = answer accepted (put c i (Confirmed z))
-confirmingField (Confirmed z) c i = answer notRead c
+abbrev pub confirmTests : Card → ℤ → List Test
+confirmTests c f = test (isField f) 9 ∷ test (isRead (fieldOf c f)) 12 ∷ []
 
-abbrev pub confirmingAt : Place → Card → Answer
-confirmingAt Nowhere c = answer noSuchField c
-confirmingAt (At i) c = confirmingField (fieldAt c i) c i
+abbrev pub confirming : Card → ℤ → AnswerValues
+confirming c f = decided (confirmTests c f) (accepted (put c (placeOf f) (Confirmed (numberIn (fieldOf c f))))) (refused c)
 
-abbrev pub confirming : Card → ℤ → Answer
-confirming c f = confirmingAt (placeOf f) c
-
--- READING writes the text of the number that the field holds from a place of the buffer on. It makes a heard field read; a read or confirmed
--- field keeps its state
-abbrev pub numberIn : Field → Held
-numberIn Empty = Nothing
-numberIn (Heard z) = Number z
-numberIn (Read z) = Number z
-numberIn (Confirmed z) = Number z
-
+-- READING writes the text of the number that the field holds from a place of the buffer on. Of the states it moves one alone, from heard to read
 abbrev pub readState : Field → Field
 readState Empty = Empty
 readState (Heard z) = Read z
 readState (Read z) = Read z
 readState (Confirmed z) = Confirmed z
 
--- also the length of the text, 0 where the call is refused
-abbrev pub readAnswer : ℕ → ℕ → Card → ReadAnswer
-readAnswer refusal len c = record { refusal = refusal; length = len; card = c }
+abbrev pub readCard : Card → ℤ → Card
+readCard c f = put c (placeOf f) (readState (fieldOf c f))
 
-abbrev pub readingNumber : Held → Card → ℕ → List ℕ → ℕ → ReadAnswer
-readingNumber Nothing c i buffer place = readAnswer emptyField 0 c
-readingNumber (Number z) c i buffer place =
-    cond (fits buffer place z)
-    (readAnswer accepted (length (text z)) (put c i (readState (fieldAt c i))))
-    (readAnswer noRoom 0 c)
+-- what is asked of the field, and then of the buffer
+abbrev pub heldTests : Card → ℤ → List Test
+heldTests c f = test (isField f) 9 ∷ test (isHeld (fieldOf c f)) 10 ∷ []
 
-abbrev pub readingAt : Place → Card → List ℕ → ℕ → ReadAnswer
-readingAt Nowhere c buffer place = readAnswer noSuchField 0 c
-readingAt (At i) c buffer place = readingNumber (numberIn (fieldAt c i)) c i buffer place
+abbrev pub readTests : Card → ℤ → List ℕ → ℕ → List Test
+readTests c f buffer place = heldTests c f ++ test (fits buffer place (numberIn (fieldOf c f))) 11 ∷ []
 
-abbrev pub reading : Card → ℤ → List ℕ → ℕ → ReadAnswer
-reading c f buffer place = readingAt (placeOf f) c buffer place
+abbrev pub reading : Card → ℤ → List ℕ → ℕ → ReadValues
+reading c f buffer place = decided (readTests c f buffer place) (writtenOut (length (text (numberIn (fieldOf c f)))) (readCard c f)) (notWritten c)
 
--- the buffer after reading: the text stands in it where it fits, and every other byte is kept
-abbrev pub bufferHolding : Held → List ℕ → ℕ → List ℕ
-bufferHolding Nothing buffer place = buffer
-bufferHolding (Number z) buffer place = bufferWith buffer place z
-
+-- the buffer after reading: the text stands in it, and every other byte is kept
 abbrev pub bufferAfter : Card → ℤ → List ℕ → ℕ → List ℕ
-bufferAfter c f buffer place = bufferHolding (numberIn (fieldOf c f)) buffer place
+bufferAfter c f buffer place = decided (readTests c f buffer place) (over buffer place (text (numberIn (fieldOf c f)))) (λ k. buffer)

@@ -1,27 +1,55 @@
 -- The card and its fields (document 01, "The card"). Definitions; assumes nothing.
 use Prim.Native.Nat.{ℕ, _-_}
-use mathlib.Core.Bool.{cond, _||_}
+use mathlib.Core.Path.{_≡_}
+use mathlib.Core.Bool.{Bool, true, false, cond}
 use lib.IntN.{ℤ, pos, natAbs}
-use lib.Signed.{ltZ}
-use lib.ListN.{getD, set, replicate}
+use lib.ListN.{length, getD, set, replicate}
+use Rattle.exact.specs.Range.{between}
 use Rattle.card.specs.declared.Field.{Field}
-use Rattle.card.specs.declared.Field.the-variants.{Empty, Confirmed}
+use Rattle.card.specs.declared.Field.the-variants.{Empty, Heard, Read, Confirmed}
 use Rattle.card.specs.declared.Slot.{Slot}
 use Rattle.card.specs.declared.Card.{Card}
-use Rattle.card.specs.declared.Place.{Place}
-use Rattle.card.specs.declared.Place.the-variants.{At, Nowhere}
 
--- how many fields a card has. Their numbers are 1 to fieldCount
+-- THE STATES of a field. All but empty hold a number
+abbrev pub isHeld : Field → Bool
+isHeld Empty = false
+isHeld (Heard z) = true
+isHeld (Read z) = true
+isHeld (Confirmed z) = true
+
+abbrev pub isRead : Field → Bool
+isRead Empty = false
+isRead (Heard z) = false
+isRead (Read z) = true
+isRead (Confirmed z) = false
+
+abbrev pub isConfirmed : Field → Bool
+isConfirmed Empty = false
+isConfirmed (Heard z) = false
+isConfirmed (Read z) = false
+isConfirmed (Confirmed z) = true
+
+-- the number that a field holds; no answer uses the 0 of an empty one
+abbrev pub numberIn : Field → ℤ
+numberIn Empty = pos 0
+numberIn (Heard z) = z
+numberIn (Read z) = z
+numberIn (Confirmed z) = z
+
+-- THE CARD has a slot for each field. The fields' numbers are 1 to fieldCount
 abbrev pub fieldCount : ℕ
 fieldCount = 10
+
+abbrev pub isField : ℤ → Bool
+isField f = between (pos 1) f (pos fieldCount)
 
 -- the number of the field that starts confirmed
 abbrev pub DUT1 : ℤ
 DUT1 = pos 7
 
 -- where field number f stands on the card: one less than its number
-abbrev pub placeOf : ℤ → Place
-placeOf f = cond (ltZ f (pos 1) || ltZ (pos fieldCount) f) Nowhere (At (natAbs f - 1))
+abbrev pub placeOf : ℤ → ℕ
+placeOf f = natAbs f - 1
 
 abbrev pub slot : Field → Slot
 slot f = record { field = f }
@@ -30,18 +58,18 @@ slot f = record { field = f }
 abbrev pub fieldAt : Card → ℕ → Field
 fieldAt c i = getD (c .slots) i (slot Empty) .field
 
+-- the state of field number f; a number that no field has is as good as empty
+unfoldable pub fieldOf : Card → ℤ → Field
+fieldOf c f = cond (isField f) (fieldAt c (placeOf f)) Empty
+
 -- the card with another field at a place
 abbrev pub put : Card → ℕ → Field → Card
 put c i f = record { slots = set (c .slots) i (slot f) }
 
+-- a card has a slot for each field. In the code the array's type says so
+abbrev pub Full : Card → Type 0
+Full c = length (c .slots) ≡ fieldCount
+
 -- every field is empty, but for DUT1, which is confirmed as 0
 abbrev pub freshCard : Card
-freshCard = put (record { slots = replicate fieldCount (slot Empty) }) (natAbs DUT1 - 1) (Confirmed (pos 0))
-
--- the state of field number f; a number that no field has is as good as empty
-abbrev pub fieldIn : Place → Card → Field
-fieldIn Nowhere c = Empty
-fieldIn (At i) c = fieldAt c i
-
-abbrev pub fieldOf : Card → ℤ → Field
-fieldOf c f = fieldIn (placeOf f) c
+freshCard = put (record { slots = replicate fieldCount (slot Empty) }) (placeOf DUT1) (Confirmed (pos 0))

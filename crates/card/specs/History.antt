@@ -1,15 +1,17 @@
 -- Histories of calls on a card, and what it means that a number was heard, then read out, then confirmed. proofs/ConfirmedWasReadOut.antt has
--- the theorem that every confirmed number was. Definitions; assumes nothing.
-use Prim.Native.Nat.{ℕ}
+-- the theorem that every confirmed number was, from any card on. Definitions; assumes nothing.
+use Prim.Native.Nat.{ℕ, _≤_}
 use mathlib.Core.Path.{_≡_}
 use mathlib.Core.Logic.{_≢_}
 use mathlib.Core.List.{List, [], _∷_, _++_, List·Memᴰ}
-use lib.IntN.{ℤ, pos}
+use lib.IntN.{ℤ, pos, natAbs}
 use Rattle.digits.specs.Text.{text}
 use Rattle.digits.specs.Writing.{over}
+use Rattle.card.specs.declared.Field.{Field}
+use Rattle.card.specs.declared.Field.the-variants.{Heard, Read, Confirmed}
 use Rattle.card.specs.declared.Card.{Card}
-use Rattle.card.specs.Fields.{DUT1, freshCard}
-use Rattle.card.specs.Calls.{accepted, hearing, reading, bufferAfter, confirming}
+use Rattle.card.specs.Fields.{numberIn, DUT1, fieldOf}
+use Rattle.card.specs.Calls.{hearing, reading, bufferAfter, confirming}
 
 -- one call, with its arguments: any field number, any number, any buffer and any place
 pub data Call : Type 0 where
@@ -23,7 +25,7 @@ after c (hear f n) = hearing c f n .card
 after c (read f buffer place) = reading c f buffer place .card
 after c (confirm f) = confirming c f .card
 
--- its refusal number
+-- its refusal number, 0 where it is accepted
 abbrev pub refusal : Card → Call → ℕ
 refusal c (hear f n) = hearing c f n .refusal
 refusal c (read f buffer place) = reading c f buffer place .refusal
@@ -36,25 +38,44 @@ afterAll c (call ∷ calls) = afterAll (after c call) calls
 
 -- every hearing for field f among the calls is refused. (Whether a hearing is refused does not depend on the card.)
 abbrev pub NothingHeard : ℤ → List Call → Type 0
-NothingHeard f calls = (c : Card) (n : ℤ) → List·Memᴰ (hear f n) calls → refusal c (hear f n) ≢ accepted
+NothingHeard f calls = (c : Card) (n : ℤ) → List·Memᴰ (hear f n) calls → refusal c (hear f n) ≢ 0
 
--- among the calls from a fresh card, n was heard for field f, after that its text was written out, after that it was confirmed, and nothing
--- was heard for f since that hearing
-pub record HeardReadConfirmed (calls : List Call) (f n : ℤ) : Type 0 where
-  pub before : List Call
-  pub unread : List Call
+-- What may lie behind a number that stands confirmed after calls from a card c, told from the last of the three calls to the first.
+
+-- field f, which is read on c, was confirmed among the calls, and nothing was heard for f
+pub record ConfirmedAmong (c : Card) (f : ℤ) (calls : List Call) : Type 0 where
+  pub earlier : List Call
+  pub later : List Call
+  pub order : calls ≡ earlier ++ confirm f ∷ later
+  pub accepts : refusal (afterAll c earlier) (confirm f) ≡ 0
+  pub quiet : NothingHeard f earlier × NothingHeard f later
+
+-- n, with which f is heard on c, was read out among the calls: its text was written. After that it was confirmed, and nothing was heard for f
+pub record ReadOutAmong (c : Card) (f n : ℤ) (calls : List Call) : Type 0 where
+  pub earlier : List Call
   pub buffer : List ℕ
   pub place : ℕ
-  pub unconfirmed : List Call
-  pub since : List Call
-  pub order : calls ≡ before ++ hear f n ∷ unread ++ read f buffer place ∷ unconfirmed ++ confirm f ∷ since
-  -- the three calls were accepted
-  pub heard : refusal (afterAll freshCard before) (hear f n) ≡ accepted
-  pub readOut : refusal (afterAll freshCard (before ++ hear f n ∷ unread)) (read f buffer place) ≡ accepted
-  pub confirmed : refusal (afterAll freshCard (before ++ hear f n ∷ unread ++ read f buffer place ∷ unconfirmed)) (confirm f) ≡ accepted
-  -- and the reading wrote the text of n
-  pub shown : bufferAfter (afterAll freshCard (before ++ hear f n ∷ unread)) f buffer place ≡ over buffer place (text n)
-  pub nothingSince : NothingHeard f unread × NothingHeard f unconfirmed × NothingHeard f since
+  pub later : List Call
+  pub order : calls ≡ earlier ++ read f buffer place ∷ later
+  pub accepts : refusal (afterAll c earlier) (read f buffer place) ≡ 0
+  pub shown : bufferAfter (afterAll c earlier) f buffer place ≡ over buffer place (text n)
+  pub quiet : NothingHeard f earlier
+  pub confirmed : ConfirmedAmong (after (afterAll c earlier) (read f buffer place)) f later
+
+-- n was heard for f among the calls, after that read out, after that confirmed, and nothing was heard for f since that hearing
+pub record HeardAmong (c : Card) (f n : ℤ) (calls : List Call) : Type 0 where
+  pub earlier : List Call
+  pub later : List Call
+  pub order : calls ≡ earlier ++ hear f n ∷ later
+  pub accepts : refusal (afterAll c earlier) (hear f n) ≡ 0
+  pub readOut : ReadOutAmong (after (afterAll c earlier) (hear f n)) f n later
+
+-- what of the three did not come among the calls stood on c already
+pub data Story (c : Card) (f n : ℤ) (calls : List Call) : Type 0 where
+  stoodConfirmed : fieldOf c f ≡ Confirmed n → NothingHeard f calls → Story c f n calls
+  stoodRead : fieldOf c f ≡ Read n → ConfirmedAmong c f calls → Story c f n calls
+  stoodHeard : fieldOf c f ≡ Heard n → ReadOutAmong c f n calls → Story c f n calls
+  wasHeard : HeardAmong c f n calls → Story c f n calls
 
 -- the one number that stands confirmed on a fresh card: DUT1's 0, for which nothing was heard yet
 pub record StartingZero (calls : List Call) (f n : ℤ) : Type 0 where
@@ -66,4 +87,11 @@ pub record StartingZero (calls : List Call) (f n : ℤ) : Type 0 where
 abbrev pub NothingReadOut : Card → ℤ → List Call → Type 0
 NothingReadOut c f calls =
     (earlier later : List Call) (buffer : List ℕ) (place : ℕ) → calls ≡ earlier ++ read f buffer place ∷ later
-    → refusal (afterAll c earlier) (read f buffer place) ≢ accepted
+    → refusal (afterAll c earlier) (read f buffer place) ≢ 0
+
+-- the number that a field holds is at most 9,999,999 in magnitude. (An empty field holds none, and its 0 is no exception.)
+abbrev pub Small : Field → Type 0
+Small v = natAbs (numberIn v) ≤ 9999999
+
+abbrev pub HeldSmall : Card → Type 0
+HeldSmall c = (f : ℤ) → Small (fieldOf c f)

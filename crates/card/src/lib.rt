@@ -1,15 +1,19 @@
 // The card of spoken fields (document 01, "The card"). A number counts only after it was heard, read out and confirmed.
 // The calls take a card by value and answer the card afterwards; a refused call answers the card as it was.
 mod places;
-mod refusals;
 
 use digits::Written;
 pub use places::FIELDS;
+use refusal::Refusal;
+use refusal::Verdict;
 ghost use mathlib.Core.Path.{_≡_};
-ghost use Prim.Native.Nat.{_<_};
-ghost use Rattle.card.specs.Fields.{fieldCount, placeOf, fieldAt, put, freshCard};
-ghost use Rattle.card.specs.Calls.{answer, readAnswer, isTooLarge, hearing, confirming, numberIn, readState, reading, bufferAfter};
-ghost use Rattle.card.specs.Shot.{confirmedNumbers};
+ghost use mathlib.Core.Bool.{true};
+ghost use Prim.Native.Nat.{_<_, _^_};
+ghost use lib.IntN.{natAbs};
+ghost use Rattle.refusal.specs.Numbers.{numberOf};
+ghost use Rattle.card.specs.Fields.{isHeld, numberIn, fieldCount, isField, placeOf, fieldAt, fieldOf, put, freshCard};
+ghost use Rattle.card.specs.Calls.{valuesOf, accepted, refused, readValuesOf, writtenOut, notWritten, hearing, confirming, readState, reading, bufferAfter};
+ghost use Rattle.card.specs.Shot.{confirmedValues, confirmedNumbers};
 
 // The largest magnitude of a number that can be heard.
 const LARGEST: i64 = 9_999_999;
@@ -23,36 +27,31 @@ pub enum Field {
 }
 
 pub struct Slot {
-    pub field: Field,
+    field: Field,
 }
 
+// A card is made by `fresh` and changed by the calls alone: its fields are not public, so that no caller writes a confirmed number into it.
 pub struct Card {
-    pub slots: [Slot; FIELDS],
+    slots: [Slot; FIELDS],
 }
 
 // What hearing and confirming answer.
 pub struct Answer {
-    pub refusal: u64,
+    pub verdict: Verdict,
     pub card: Card,
 }
 
-// What reading answers: also the length of the text, 0 where it is refused.
+// What became of a reading.
+pub enum Reading {
+    // The text stands in the buffer, and is so many bytes long.
+    Written(usize),
+    Refused(Refusal),
+}
+
+// What reading answers.
 pub struct ReadAnswer {
-    pub refusal: u64,
-    pub length: usize,
+    pub reading: Reading,
     pub card: Card,
-}
-
-// Where a field number stands on the card.
-pub enum Place {
-    At(usize),
-    Nowhere,
-}
-
-// What a field holds.
-pub enum Held {
-    Number(i64),
-    Nothing,
 }
 
 // The numbers of a card whose fields are all confirmed, in the units of document 01's table.
@@ -73,7 +72,7 @@ pub struct Numbers {
 pub enum ConfirmedNumbers {
     All(Numbers),
     // Refusal 1: some field is not confirmed.
-    NotAll,
+    Refused(Refusal),
 }
 
 // A fresh card: every field is empty, but for DUT1, which is confirmed as 0.
@@ -92,81 +91,95 @@ pub fn fresh() -> Card
 
 // Hears a number into a field, whatever stood there. Refusals 9, 13.
 pub fn hear(card: Card, field: i64, number: i64) -> Answer
-    ensures { λ r. ⌜ r ≡ hearing card field number ⌝ }
+    ensures { λ r. ⌜ valuesOf r ≡ hearing card field number ⌝ }
 {
-    let Place::At(i) = place_of(field) else {
-        return answered(refusals::NO_SUCH_FIELD, card);
-    };
-    if is_too_large(number) {
-        return answered(refusals::TOO_LARGE, card);
+    if !is_field(field) {
+        return refused(card, Refusal::NoField);
     }
-    answered(refusals::ACCEPTED, put(card, i, Field::Heard(number)))
+    if !exact::between(-LARGEST, number, LARGEST) {
+        return refused(card, Refusal::TooLarge);
+    }
+    accepted(put(card, place_of(field), Field::Heard(number)))
 }
 
-// Reads a field out: writes its text from a place of the buffer on, and makes a heard field read. Refusals 9, 10, 11.
+// Reads a field out: writes its text from a place of the buffer on, and makes a heard field read. Refusals 9, 10, 11. The range of the
+// number tells a caller how much room is always enough.
 pub fn read(card: Card, field: i64, buf: &mut [u8], place: usize) -> ReadAnswer
-    ensures { λ r. ⌜ r ≡ reading card field (now (buf .entry)) place ⌝ }
+    ensures { λ r. ⌜ readValuesOf r ≡ reading card field (now (buf .entry)) place ⌝ }
     ensures { λ r. ⌜ now (buf .exit) ≡ bufferAfter card field (now (buf .entry)) place ⌝ }
+    ensures { λ _. ⌜ natAbs (numberIn (fieldOf card field)) < 2 ^ 64 ⌝ }
 {
-    let Place::At(i) = place_of(field) else {
-        return read_answered(refusals::NO_SUCH_FIELD, 0, card);
-    };
+    if !is_field(field) {
+        return not_written(card, Refusal::NoField);
+    }
+    let i = place_of(field);
     let state = field_at(card, i);
-    let Held::Number(number) = number_in(state) else {
-        return read_answered(refusals::EMPTY_FIELD, 0, card);
+    if !is_held(state) {
+        return not_written(card, Refusal::EmptyField);
+    }
+    let Written::Bytes(length) = digits::write_at(buf, place, number_in(state)) else {
+        return not_written(card, Refusal::NoRoom);
     };
-    let Written::Bytes(length) = digits::write_at(buf, place, number) else {
-        return read_answered(refusals::NO_ROOM, 0, card);
-    };
-    read_answered(refusals::ACCEPTED, length, put(card, i, read_state(state)))
+    written_out(length, put(card, i, read_state(state)))
 }
 
 // Confirms a field that was read out. Refusals 9, 12.
 pub fn confirm(card: Card, field: i64) -> Answer
-    ensures { λ r. ⌜ r ≡ confirming card field ⌝ }
+    ensures { λ r. ⌜ valuesOf r ≡ confirming card field ⌝ }
 {
-    let Place::At(i) = place_of(field) else {
-        return answered(refusals::NO_SUCH_FIELD, card);
-    };
+    if !is_field(field) {
+        return refused(card, Refusal::NoField);
+    }
+    let i = place_of(field);
     let Field::Read(number) = field_at(card, i) else {
-        return answered(refusals::NOT_READ, card);
+        return refused(card, Refusal::NotRead);
     };
-    answered(refusals::ACCEPTED, put(card, i, Field::Confirmed(number)))
+    accepted(put(card, i, Field::Confirmed(number)))
+}
+
+// The state of a field; a number that no field has is as good as an empty field.
+pub fn field_of(card: Card, field: i64) -> Field
+    ensures { λ r. ⌜ r ≡ fieldOf card field ⌝ }
+{
+    if !is_field(field) {
+        return Field::Empty;
+    }
+    field_at(card, place_of(field))
 }
 
 // The numbers that a shot from a card works on, or refusal 1.
 pub fn confirmed_numbers(card: Card) -> ConfirmedNumbers
-    ensures { λ r. ⌜ r ≡ confirmedNumbers card ⌝ }
+    ensures { λ r. ⌜ confirmedValues r ≡ confirmedNumbers card ⌝ }
 {
     let Field::Confirmed(year) = field_at(card, places::YEAR) else {
-        return ConfirmedNumbers::NotAll;
+        return ConfirmedNumbers::Refused(Refusal::NotConfirmed);
     };
     let Field::Confirmed(month) = field_at(card, places::MONTH) else {
-        return ConfirmedNumbers::NotAll;
+        return ConfirmedNumbers::Refused(Refusal::NotConfirmed);
     };
     let Field::Confirmed(day) = field_at(card, places::DAY) else {
-        return ConfirmedNumbers::NotAll;
+        return ConfirmedNumbers::Refused(Refusal::NotConfirmed);
     };
     let Field::Confirmed(hour) = field_at(card, places::HOUR) else {
-        return ConfirmedNumbers::NotAll;
+        return ConfirmedNumbers::Refused(Refusal::NotConfirmed);
     };
     let Field::Confirmed(minute) = field_at(card, places::MINUTE) else {
-        return ConfirmedNumbers::NotAll;
+        return ConfirmedNumbers::Refused(Refusal::NotConfirmed);
     };
     let Field::Confirmed(millisecond) = field_at(card, places::MILLISECOND) else {
-        return ConfirmedNumbers::NotAll;
+        return ConfirmedNumbers::Refused(Refusal::NotConfirmed);
     };
     let Field::Confirmed(dut1) = field_at(card, places::DUT1) else {
-        return ConfirmedNumbers::NotAll;
+        return ConfirmedNumbers::Refused(Refusal::NotConfirmed);
     };
     let Field::Confirmed(latitude) = field_at(card, places::LATITUDE) else {
-        return ConfirmedNumbers::NotAll;
+        return ConfirmedNumbers::Refused(Refusal::NotConfirmed);
     };
     let Field::Confirmed(longitude) = field_at(card, places::LONGITUDE) else {
-        return ConfirmedNumbers::NotAll;
+        return ConfirmedNumbers::Refused(Refusal::NotConfirmed);
     };
     let Field::Confirmed(body) = field_at(card, places::BODY) else {
-        return ConfirmedNumbers::NotAll;
+        return ConfirmedNumbers::Refused(Refusal::NotConfirmed);
     };
     ConfirmedNumbers::All(Numbers {
         year: year,
@@ -182,24 +195,19 @@ pub fn confirmed_numbers(card: Card) -> ConfirmedNumbers
     })
 }
 
-// Whether a number is too large in magnitude to be heard.
-fn is_too_large(number: i64) -> bool
-    ensures { λ r. ⌜ r ≡ isTooLarge number ⌝ }
+// Whether a field has this number.
+fn is_field(field: i64) -> bool
+    ensures { λ r. ⌜ r ≡ isField field ⌝ }
 {
-    number < -LARGEST || LARGEST < number
+    exact::between(1, field, FIELDS as i64)
 }
 
-// Where a field number stands, if it is one.
-fn place_of(field: i64) -> Place
-    ensures { λ r. ⌜ r ≡ placeOf field ⌝ }
+// Where a field stands on the card.
+fn place_of(field: i64) -> usize
+    requires { ⌜ isField field ≡ true ⌝ }
+    ensures { λ r. ⌜ (r ≡ placeOf field) × (r < fieldCount) ⌝ }
 {
-    if field < 1 {
-        return Place::Nowhere;
-    }
-    if (FIELDS as i64) < field {
-        return Place::Nowhere;
-    }
-    Place::At(field as usize - 1)
+    field as usize - 1
 }
 
 // The field at a place.
@@ -221,15 +229,25 @@ fn put(card: Card, i: usize, field: Field) -> Card
     next
 }
 
-// The number that a field holds, if it holds one.
-fn number_in(field: Field) -> Held
+// Whether a field holds a number.
+fn is_held(field: Field) -> bool
+    ensures { λ r. ⌜ r ≡ isHeld field ⌝ }
+{
+    match field {
+        Field::Empty => false,
+        _ => true,
+    }
+}
+
+// The number that a field holds. Of an empty one it is 0, which nobody uses.
+fn number_in(field: Field) -> i64
     ensures { λ r. ⌜ r ≡ numberIn field ⌝ }
 {
     match field {
-        Field::Empty => Held::Nothing,
-        Field::Heard(n) => Held::Number(n),
-        Field::Read(n) => Held::Number(n),
-        Field::Confirmed(n) => Held::Number(n),
+        Field::Empty => 0,
+        Field::Heard(n) => n,
+        Field::Read(n) => n,
+        Field::Confirmed(n) => n,
     }
 }
 
@@ -243,22 +261,39 @@ fn read_state(field: Field) -> Field
     }
 }
 
-// The parts of an answer, put together.
-fn answered(refusal: u64, card: Card) -> Answer
-    ensures { λ r. ⌜ r ≡ answer refusal card ⌝ }
+// The answers, put together.
+fn accepted(card: Card) -> Answer
+    ensures { λ r. ⌜ valuesOf r ≡ accepted card ⌝ }
 {
     Answer {
-        refusal: refusal,
+        verdict: Verdict::Accepted,
         card: card,
     }
 }
 
-fn read_answered(refusal: u64, length: usize, card: Card) -> ReadAnswer
-    ensures { λ r. ⌜ r ≡ readAnswer refusal length card ⌝ }
+fn refused(card: Card, refusal: Refusal) -> Answer
+    ensures { λ r. ⌜ valuesOf r ≡ refused card (numberOf refusal) ⌝ }
+{
+    Answer {
+        verdict: Verdict::Refused(refusal),
+        card: card,
+    }
+}
+
+fn written_out(length: usize, card: Card) -> ReadAnswer
+    ensures { λ r. ⌜ readValuesOf r ≡ writtenOut length card ⌝ }
 {
     ReadAnswer {
-        refusal: refusal,
-        length: length,
+        reading: Reading::Written(length),
+        card: card,
+    }
+}
+
+fn not_written(card: Card, refusal: Refusal) -> ReadAnswer
+    ensures { λ r. ⌜ readValuesOf r ≡ notWritten card (numberOf refusal) ⌝ }
+{
+    ReadAnswer {
+        reading: Reading::Refused(refusal),
         card: card,
     }
 }

@@ -47,7 +47,8 @@ fn hear(card: Card, arguments: &[u8]) -> Card {
     let field = words::integer(words::first(arguments));
     let number = words::integer(words::first(words::rest(arguments)));
     let answer = card::hear(card, field, number);
-    output::natural(answer.refusal);
+    let verdict = answer.verdict;
+    output::verdict_number(verdict);
     answer.card
 }
 
@@ -62,8 +63,8 @@ fn read(card: Card, arguments: &[u8]) -> Card {
 
 fn read_into(card: Card, field: i64, buffer: &mut [u8], place: usize) -> Card {
     let answer = card::read(card, field, buffer, place);
-    output::natural(answer.refusal);
-    output::natural(answer.length as u64);
+    let reading = answer.reading;
+    output::refusal_and_length(reading);
     output::hex(buffer);
     answer.card
 }
@@ -71,7 +72,8 @@ fn read_into(card: Card, field: i64, buffer: &mut [u8], place: usize) -> Card {
 fn confirm(card: Card, arguments: &[u8]) -> Card {
     let field = words::integer(words::first(arguments));
     let answer = card::confirm(card, field);
-    output::natural(answer.refusal);
+    let verdict = answer.verdict;
+    output::verdict_number(verdict);
     answer.card
 }
 
@@ -82,7 +84,7 @@ fn shot(card: Card) -> Card {
             output::natural(0);
             shot_numbers(numbers);
         }
-        ConfirmedNumbers::NotAll => output::natural(1),
+        ConfirmedNumbers::Refused(refusal) => output::refusal_number(refusal),
     }
     card
 }

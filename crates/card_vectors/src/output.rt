@@ -1,7 +1,36 @@
 // The parts of an answer's line.
 use card::Card;
 use card::Field;
+use card::Reading;
 use libc::STDOUT_FILENO;
+use refusal::Refusal;
+use refusal::Verdict;
+
+// The refusal number, 0 where the call is accepted.
+pub fn verdict_number(verdict: Verdict) {
+    match verdict {
+        Verdict::Accepted => natural(0),
+        Verdict::Refused(refusal) => refusal_number(refusal),
+    }
+}
+
+// The refusal number and the length of the text, of which one is always 0.
+pub fn refusal_and_length(reading: Reading) {
+    match reading {
+        Reading::Written(length) => {
+            natural(0);
+            natural(length as u64);
+        }
+        Reading::Refused(refusal) => {
+            refusal_number(refusal);
+            natural(0);
+        }
+    }
+}
+
+pub fn refusal_number(refusal: Refusal) {
+    natural(refusal::number_of(refusal));
+}
 
 // The bar, each field's state and number, and the line's end.
 pub fn card(card: Card) {
@@ -12,9 +41,7 @@ pub fn card(card: Card) {
 
 fn fields(card: Card) {
     for i in 0..card::FIELDS {
-        let slot = card.slots[i];
-        let f = slot.field;
-        field(f);
+        field(card::field_of(card, (i + 1) as i64));
     }
 }
 

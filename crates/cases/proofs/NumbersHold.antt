@@ -10,7 +10,7 @@ use Rattle.exact.specs.Century.{century}
 use Rattle.exact.specs.Division.{floorDiv, nearestℕ}
 use Rattle.exact.specs.Range.{between}
 use Rattle.calendar.specs.Date.{leapYear, monthLength, yearDays, monthDays, dayCount, isDate}
-use Rattle.calendar.specs.Time.{leapSecondDay, lastMillisecond, isTime, dayMillisecond, isDut1, sinceNoon, instant, millionths, answer}
+use Rattle.calendar.specs.Time.{leapSecondDay, lastMillisecond, isTime, dayMillisecond, isDut1, sinceNoon, instant, millionths, instantOf}
 use Rattle.sine.specs.Polynomial.{arc, whole, polyDen, cofactor, term, polyNum}
 use Rattle.sine.specs.Sine.{entry, sinQuadrant, Sin, Cos}
 use Rattle.sine.specs.Angle.{passes, first, angle}
@@ -27,7 +27,7 @@ unfolding passes Sin Cos sinQuadrant entry nearestℕ polyNum polyDen term cofac
 diagonal = first-is 1 1 1620000001 (lit< tt) refl (λ h. refl)
 
 pub numbers-hold : Hold table
-unfolding leapYear monthLength yearDays monthDays dayCount isDate leapSecondDay lastMillisecond isTime dayMillisecond isDut1 sinceNoon instant millionths answer between floorDiv Sin sinQuadrant entry nearestℕ polyNum polyDen term cofactor arc whole angle
+unfolding leapYear monthLength yearDays monthDays dayCount isDate leapSecondDay lastMillisecond isTime dayMillisecond isDut1 sinceNoon instant millionths instantOf between floorDiv Sin sinQuadrant entry nearestℕ polyNum polyDen term cofactor arc whole angle
 numbers-hold = (
   refl,
   (

@@ -43,8 +43,7 @@ fn write_sighting(s: Sighting) {
             write_angle(a.zenith);
             write_angle(a.hour);
         }
-        Sighting::BelowHorizon => vectors::write_number(7),
-        Sighting::NearZenith => vectors::write_number(8),
+        Sighting::Refused(refusal) => vectors::write_natural(refusal::number_of(refusal)),
     }
 }
 

@@ -17,11 +17,11 @@ use Rattle.frame.specs.Sidereal.{siderealTime}
 use Rattle.sun.specs.Longitude.{apparentLongitude, centreLongitude}
 use Rattle.polaris.specs.Apparent.{direction}
 use Rattle.rotation.specs.Rotation.{fromEcliptic}
-use Rattle.horizon.specs.Horizon.{Answer, sighting}
-use Rattle.fieldbook.specs.Shot.{answered, seenFrom, sunShot, polarisShot}
+use Rattle.horizon.specs.Horizon.{viewFrom}
+use Rattle.fieldbook.specs.Shot.{Values, sunDirection, polarisDirection, viewAt}
+use Rattle.fieldbook.specs.Parts.{viewShot, sunShot, polarisShot}
 use Rattle.fieldbook.specs.Sky.{IsSky}
 use Rattle.fieldbook.specs.declared.Sky.{Sky}
-use Rattle.fieldbook.specs.declared.Outcome.{Outcome}
 
 module _ (k : Sky) (h : IsSky k) where
   pub q-le : natAbs (k .q) ≤ 1500000
@@ -50,13 +50,15 @@ module _ (k : Sky) (h : IsSky k) where
   epsilon-fits = fits-lt (2 ^ 35) (k .epsilon) (h .epsilon-size) refl
 
   -- ---- the two bodies
-  module _ (latitude longitude : ℤ) (d : List ℤ) (a : Answer) (r : Outcome) (sight : a ≡ sighting (pos (k .sidereal)) latitude longitude d) where
-    pub sun-is : (s : ℕ) → s ≡ apparentLongitude (k .arguments) (k .q) → d ≡ fromEcliptic s (k .epsilon) → r ≡ answered a s
-        → r ≡ sunShot (k .n) (k .q) latitude longitude
-    unfolding sunShot seenFrom
+  module _ (latitude longitude : ℤ) (d : List ℤ) (a : Values) where
+    abbrev ShotOf : ℕ → Type 0
+    ShotOf s = a ≡ viewShot (viewFrom (pos (k .sidereal)) latitude longitude d) s
+
+    pub sun-is : (s : ℕ) → s ≡ apparentLongitude (k .arguments) (k .q) → d ≡ fromEcliptic s (k .epsilon) → ShotOf s → a ≡ sunShot (k .n) (k .q) latitude longitude
+    unfolding sunShot viewAt sunDirection
     sun-is s e f g = cc
 
-    pub polaris-is : (c : ℕ) → c ≡ centreLongitude (k .arguments) (k .q) → d ≡ direction (k .n) (k .obliquity) (k .nutation) (k .epsilon) c → r ≡ answered a 0
-        → r ≡ polarisShot (k .n) (k .q) latitude longitude
-    unfolding polarisShot seenFrom
+    pub polaris-is : (c : ℕ) → c ≡ centreLongitude (k .arguments) (k .q) → d ≡ direction (k .n) (k .obliquity) (k .nutation) (k .epsilon) c → ShotOf 0
+        → a ≡ polarisShot (k .n) (k .q) latitude longitude
+    unfolding polarisShot viewAt polarisDirection
     polaris-is c e f g = cc

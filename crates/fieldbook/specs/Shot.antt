@@ -1,14 +1,14 @@
--- Document 01: a shot with ten plain numbers and a shot from a card, with the refusals in their order ("Refusal numbers").
--- Assumes nothing.
+-- THE SHOT: what the shot with ten plain numbers and the shot from a card answer, in document 01's own numbers ("Refusal numbers", "The
+-- horizon"). Angles are in units of 0.0001″. Definitions; assumes nothing.
 use mathlib.Core.Bool.{Bool, cond, _&&_}
-use mathlib.Core.List.{List}
+use mathlib.Core.List.{List, _∷_, _++_}
 use Prim.Native.Nat.{ℕ, _<_}
-use lib.Dec.{eqb}
 use lib.IntN.{ℤ, pos, negsuc, _*ℤ_}
+use Rattle.refusal.specs.Numbers.{numberOf}
+use Rattle.refusal.specs.Tests.{Test, test, decided}
 use Rattle.exact.specs.Angle.{turn}
 use Rattle.exact.specs.Range.{between}
-use Rattle.calendar.specs.Date.{isDate}
-use Rattle.calendar.specs.Time.{isTime, isDut1, instant, millionths}
+use Rattle.calendar.specs.Time.{instant, millionths, instantTests}
 use Rattle.calendar.specs.declared.CivilTime.{CivilTime}
 use Rattle.arguments.specs.Table.{argumentsOf}
 use Rattle.frame.specs.Nutation.{deltaPsi, meanObliquity, epsilon}
@@ -16,30 +16,16 @@ use Rattle.frame.specs.Sidereal.{siderealTime}
 use Rattle.sun.specs.Longitude.{apparentLongitude, centreLongitude}
 use Rattle.polaris.specs.Apparent.{direction}
 use Rattle.rotation.specs.Rotation.{fromEcliptic}
-use Rattle.horizon.specs.Horizon.{Answer, sighting}
-use Rattle.card.specs.Shot.{confirmedNumbers}
+use Rattle.horizon.specs.Horizon.{View, viewFrom, seen, sightTests}
+use Rattle.card.specs.Shot.{numbersOf, cardTests}
 use Rattle.card.specs.declared.Card.{Card}
 use Rattle.card.specs.declared.Numbers.{Numbers}
-use Rattle.card.specs.declared.ConfirmedNumbers.{ConfirmedNumbers}
-use Rattle.card.specs.declared.ConfirmedNumbers.the-variants.{All, NotAll}
 use Rattle.fieldbook.specs.declared.Angles.{Angles}
-use Rattle.fieldbook.specs.declared.Refusal.{Refusal}
-use Rattle.fieldbook.specs.declared.Refusal.the-variants.{NotConfirmed, NoDate, NoTime, NoDut1, NoPlace, NoBody, BelowHorizon, NearZenith}
 use Rattle.fieldbook.specs.declared.Outcome.{Outcome}
 use Rattle.fieldbook.specs.declared.Outcome.the-variants.{Answered, Refused}
 
--- ---- 01's number and values for each case of an answer
-abbrev pub numberOf : Refusal → ℕ
-numberOf NotConfirmed = 1
-numberOf NoDate = 2
-numberOf NoTime = 3
-numberOf NoDut1 = 4
-numberOf NoPlace = 5
-numberOf NoBody = 6
-numberOf BelowHorizon = 7
-numberOf NearZenith = 8
-
--- the refusal, 0 where there is none, and the four angles: azimuth, zenith angle, hour angle and s; "every refusal returns angles .. of 0"
+-- ---- the values of an answer
+-- the refusal's number, 0 where there is none, and azimuth, zenith angle, hour angle and s
 pub record Values : Type 0 where
   pub refusal : ℕ
   pub azimuth : ℕ
@@ -47,78 +33,95 @@ pub record Values : Type 0 where
   pub hour-angle : ℕ
   pub longitude : ℕ
 
+-- a refusal has zero angles
+abbrev pub refused : ℕ → Values
+refused k = record { refusal = k; azimuth = 0; zenith = 0; hour-angle = 0; longitude = 0 }
+
+-- 01's number and values of each case of the code's answer
 abbrev pub valuesOf : Outcome → Values
 valuesOf (Answered a) = record { refusal = 0; azimuth = a .azimuth; zenith = a .zenith; hour-angle = a .«hour_angle»; longitude = a .longitude }
-valuesOf (Refused r) = record { refusal = numberOf r; azimuth = 0; zenith = 0; hour-angle = 0; longitude = 0 }
+valuesOf (Refused r) = refused (numberOf r)
 
--- ---- the two bodies at an accepted instant, from a place in units
--- the sight's own refusals 7 and 8, or its three angles with s
-unfoldable pub answered : Answer → ℕ → Outcome
-answered a s =
-    cond (eqb (a .refusal) 7) (Refused BelowHorizon)
-    (cond (eqb (a .refusal) 8) (Refused NearZenith)
-    (Answered (record { azimuth = a .azimuth; zenith = a .zenith; «hour_angle» = a .hour; longitude = s })))
+-- all angles are reduced
+abbrev pub InTurn : Values → Type 0
+InTurn v = (v .azimuth < turn) × (v .zenith < turn) × (v .hour-angle < turn) × (v .longitude < turn)
 
--- what is seen at N, q of a body in a direction, from a latitude and a longitude
-unfoldable pub seenFrom : ℤ → ℤ → ℤ → ℤ → List ℤ → Answer
-seenFrom n q latitude longitude d =
+-- ---- a body at the instant of N and q
+-- field 10: 1 is the Sun, 2 Polaris
+abbrev pub isSun : ℤ → Bool
+isSun body = between (pos 1) body (pos 1)
+
+abbrev pub isBody : ℤ → Bool
+isBody body = between (pos 1) body (pos 2)
+
+unfoldable pub sunDirection : ℤ → ℤ → List ℤ
+sunDirection n q = let a = argumentsOf n q in fromEcliptic (apparentLongitude a q) (epsilon a q)
+
+unfoldable pub polarisDirection : ℤ → ℤ → List ℤ
+polarisDirection n q =
     let a = argumentsOf n q in
-    sighting (pos (siderealTime n q (deltaPsi a q) (epsilon a q))) latitude longitude d
+    direction n (meanObliquity a) (deltaPsi a q) (epsilon a q) (centreLongitude a q)
 
--- the Sun, with its apparent longitude s
-unfoldable pub sunShot : ℤ → ℤ → ℤ → ℤ → Outcome
-sunShot n q latitude longitude =
-    let a = argumentsOf n q in
-    let s = apparentLongitude a q in
-    answered (seenFrom n q latitude longitude (fromEcliptic s (epsilon a q))) s
+abbrev pub directionOf : ℤ → ℤ → ℤ → List ℤ
+directionOf n q body = cond (isSun body) (sunDirection n q) (polarisDirection n q)
 
--- Polaris, with 0 for s
-unfoldable pub polarisShot : ℤ → ℤ → ℤ → ℤ → Outcome
-polarisShot n q latitude longitude =
-    let a = argumentsOf n q in
-    answered (seenFrom n q latitude longitude (direction n (meanObliquity a) (deltaPsi a q) (epsilon a q) (centreLongitude a q))) 0
+-- the apparent longitude that an answer gives: s, and 0 for Polaris
+abbrev pub longitudeOf : ℤ → ℤ → ℤ → ℕ
+longitudeOf n q body = cond (isSun body) (apparentLongitude (argumentsOf n q) q) 0
 
--- ---- the place and the body
--- fields 8 and 9, in 0.1″; north and east positive
+-- ---- seen from a place
+-- fields 8 and 9 are in 0.1″, north and east positive
 unfoldable pub isPlace : ℤ → ℤ → Bool
 isPlace latitude longitude = between (negsuc 3203999) latitude (pos 3204000) && between (negsuc 6479998) longitude (pos 6480000)
 
--- "φ and longitude are their fields times 1,000."
+-- and a thousand units each
 abbrev pub inUnits : ℤ → ℤ
 inUnits field = field *ℤ pos 1000
 
--- an accepted instant: refusals 5 and 6, then the body's shot, "1 Sun, 2 Polaris"
-unfoldable pub shotAt : ℤ → ℤ → ℤ → ℤ → ℤ → Outcome
-shotAt n q latitude longitude body =
-    cond (isPlace latitude longitude)
-    (cond (between (pos 1) body (pos 2))
-    (cond (between (pos 1) body (pos 1)) (sunShot n q (inUnits latitude) (inUnits longitude)) (polarisShot n q (inUnits latitude) (inUnits longitude)))
-    (Refused NoBody))
-    (Refused NoPlace)
+-- direction d at the instant, from a latitude and a longitude in units
+unfoldable pub viewAt : ℤ → ℤ → ℤ → ℤ → List ℤ → View
+viewAt n q latitude longitude d =
+    let a = argumentsOf n q in
+    viewFrom (pos (siderealTime n q (deltaPsi a q) (epsilon a q))) latitude longitude d
 
--- ---- the shot with ten plain numbers: "the lowest number that applies is given"
+-- the angles of a view, with s
+abbrev pub answered : View → ℕ → Values
+answered v s =
+    let a = seen v in
+    record { refusal = 0; azimuth = a .azimuth; zenith = a .zenith; hour-angle = a .hour; longitude = s }
+
+-- a body, as it is seen from fields 8 and 9
+unfoldable pub bodyView : ℤ → ℤ → ℤ → ℤ → ℤ → View
+bodyView n q latitude longitude body = viewAt n q (inUnits latitude) (inUnits longitude) (directionOf n q body)
+
+-- what is asked at an accepted instant, in the stated order: of the place, of the body and of the view
+abbrev pub testsAt : ℤ → ℤ → ℤ → ℤ → ℤ → List Test
+testsAt n q latitude longitude body =
+    test (isPlace latitude longitude) 5
+    ∷ test (isBody body) 6
+    ∷ sightTests (bodyView n q latitude longitude body)
+
+abbrev pub answerAt : ℤ → ℤ → ℤ → ℤ → ℤ → Values
+answerAt n q latitude longitude body = answered (bodyView n q latitude longitude body) (longitudeOf n q body)
+
+-- ---- the shot with ten plain numbers
 abbrev pub timeOf : Numbers → CivilTime
 timeOf x =
     record { year = x .year; month = x .month; day = x .day; hour = x .hour; minute = x .minute; millisecond = x .millisecond; dut1 = x .dut1 }
 
-unfoldable pub shotOf : Numbers → Outcome
-shotOf x =
-    let t = timeOf x in
-    cond (isDate (t .year) (t .month) (t .day))
-    (cond (isTime (t .month) (t .day) (t .hour) (t .minute) (t .millisecond))
-    (cond (isDut1 (t .dut1)) (shotAt (instant t) (millionths (instant t)) (x .latitude) (x .longitude) (x .body)) (Refused NoDut1))
-    (Refused NoTime))
-    (Refused NoDate)
+-- THE TESTS OF A SHOT, in the stated order: of the instant, 2 to 4, and then those above, 5 to 8
+abbrev pub tests : Numbers → List Test
+tests x =
+    let n = instant (timeOf x) in
+    instantTests (timeOf x) ++ testsAt n (millionths n) (x .latitude) (x .longitude) (x .body)
 
--- ---- the shot from a card: refusal 1, or the shot with the ten confirmed numbers
-abbrev pub cardShotOf : ConfirmedNumbers → Outcome
-cardShotOf (All x) = shotOf x
-cardShotOf NotAll = Refused NotConfirmed
+-- what it gives where they all pass
+abbrev pub answerOf : Numbers → Values
+answerOf x = let n = instant (timeOf x) in answerAt n (millionths n) (x .latitude) (x .longitude) (x .body)
 
-unfoldable pub cardShot : Card → Outcome
-cardShot c = cardShotOf (confirmedNumbers c)
+unfoldable pub shotOf : Numbers → Values
+shotOf x = decided (tests x) (answerOf x) refused
 
--- the angles of an answer are reduced
-abbrev pub InTurn : Outcome → Type 0
-InTurn (Answered a) = (a .azimuth < turn) × (a .zenith < turn) × (a .«hour_angle» < turn) × (a .longitude < turn)
-InTurn (Refused r) = Unit {0}
+-- ---- the shot from a card: that every field is confirmed, 1, and then as with its ten numbers
+unfoldable pub cardShot : Card → Values
+cardShot c = decided (cardTests c ++ tests (numbersOf c)) (answerOf (numbersOf c)) refused

@@ -3,10 +3,11 @@ ghost use mathlib.Core.Path.{_≡_};
 ghost use Prim.Native.Nat.{_≤_, _<_, _^_};
 ghost use lib.IntN.{natAbs};
 ghost use Rattle.calendar.specs.Time.{InstantRange, MillionthsRange};
-ghost use Rattle.fieldbook.specs.Shot.{numberOf, answered, sunShot, polarisShot, shotAt, shotOf, cardShot, InTurn};
+ghost use Rattle.fieldbook.specs.Shot.{valuesOf, InTurn, inUnits, shotOf, cardShot};
+ghost use Rattle.fieldbook.specs.Parts.{viewShot, sunShot, polarisShot, shotAt};
 ghost use Rattle.fieldbook.specs.Sky.{IsSky};
 ghost use Rattle.sine.specs.Sine.{entries};
-ghost use Rattle.horizon.specs.Horizon.{meaning, Reduced};
+ghost use Rattle.horizon.specs.Horizon.{View, sightOf, sightValues, Reduced};
 ghost use Rattle.exact.specs.Angle.{turn};
 use calendar::CivilTime;
 use calendar::Instant;
@@ -14,6 +15,7 @@ use card::Card;
 use card::ConfirmedNumbers;
 use card::Numbers;
 use horizon::Sighting;
+use refusal::Refusal;
 use sine::SineTable;
 
 // An answered shot, in units of 0.0001 second of arc: the azimuth from north clockwise, the angle from the zenith, the hour angle, and
@@ -25,43 +27,22 @@ pub struct Angles {
     pub longitude: u64,
 }
 
-// Why a shot is refused: document 01's numbers 1 to 8, in this order.
-pub enum Refusal {
-    NotConfirmed,
-    NoDate,
-    NoTime,
-    NoDut1,
-    NoPlace,
-    NoBody,
-    BelowHorizon,
-    NearZenith,
-}
-
 // What a shot answers.
 pub enum Outcome {
     Answered(Angles),
     Refused(Refusal),
 }
 
-pub fn refusal_number(refusal: Refusal) -> u64
-    ensures { λ r. ⌜ (r ≡ numberOf refusal) × (r ≤ 8) ⌝ }
-{
-    match refusal {
-        Refusal::NotConfirmed => 1,
-        Refusal::NoDate => 2,
-        Refusal::NoTime => 3,
-        Refusal::NoDut1 => 4,
-        Refusal::NoPlace => 5,
-        Refusal::NoBody => 6,
-        Refusal::BelowHorizon => 7,
-        Refusal::NearZenith => 8,
-    }
+// What a shot from a card answers, with the card.
+pub struct CardShot {
+    pub outcome: Outcome,
+    pub card: Card,
 }
 
 // A sight as a shot's answer, with s.
 fn answered(sighting: Sighting, longitude: u64) -> Outcome
     requires { ⌜ Reduced sighting × (longitude < turn) ⌝ }
-    ensures { λ r. ⌜ (r ≡ answered (meaning sighting) longitude) × InTurn r ⌝ }
+    ensures { λ r. ⌜ ((v : View) → sightValues sighting ≡ sightOf v → valuesOf r ≡ viewShot v longitude) × InTurn (valuesOf r) ⌝ }
 {
     match sighting {
         Sighting::Seen(a) => Outcome::Answered(Angles {
@@ -70,8 +51,7 @@ fn answered(sighting: Sighting, longitude: u64) -> Outcome
             hour_angle: a.hour,
             longitude: longitude,
         }),
-        Sighting::BelowHorizon => Outcome::Refused(Refusal::BelowHorizon),
-        Sighting::NearZenith => Outcome::Refused(Refusal::NearZenith),
+        Sighting::Refused(refusal) => Outcome::Refused(refusal),
     }
 }
 
@@ -107,7 +87,7 @@ fn sky_of(t: &SineTable, n: i64, q: i64) -> Sky
 // The Sun from a place in units.
 fn sun_shot(t: &SineTable, sky: Sky, latitude: i64, longitude: i64) -> Outcome
     requires { ⌜ (now t ≡ entries) × IsSky sky × ((natAbs latitude < 2 ^ 40) × (natAbs longitude < 2 ^ 40)) ⌝ }
-    ensures { λ r. ⌜ (r ≡ sunShot (sky .n) (sky .q) latitude longitude) × InTurn r ⌝ }
+    ensures { λ r. ⌜ (valuesOf r ≡ sunShot (sky .n) (sky .q) latitude longitude) × InTurn (valuesOf r) ⌝ }
 {
     let arguments = sky.arguments;
     let s = sun::apparent_longitude(t, &arguments, sky.q, sky.nutation);
@@ -118,7 +98,7 @@ fn sun_shot(t: &SineTable, sky: Sky, latitude: i64, longitude: i64) -> Outcome
 // Polaris from a place in units.
 fn polaris_shot(t: &SineTable, sky: Sky, latitude: i64, longitude: i64) -> Outcome
     requires { ⌜ (now t ≡ entries) × IsSky sky × ((natAbs latitude < 2 ^ 40) × (natAbs longitude < 2 ^ 40)) ⌝ }
-    ensures { λ r. ⌜ (r ≡ polarisShot (sky .n) (sky .q) latitude longitude) × InTurn r ⌝ }
+    ensures { λ r. ⌜ (valuesOf r ≡ polarisShot (sky .n) (sky .q) latitude longitude) × InTurn (valuesOf r) ⌝ }
 {
     let arguments = sky.arguments;
     let g = sun::centre_longitude(t, &arguments, sky.q);
@@ -126,11 +106,19 @@ fn polaris_shot(t: &SineTable, sky: Sky, latitude: i64, longitude: i64) -> Outco
     answered(horizon::sight(t, d, sky.sidereal, latitude, longitude), 0)
 }
 
+// A field of the place, which is in 0.1″, in units.
+fn in_units(field: i64) -> i64
+    requires { ⌜ natAbs field ≤ 6480000 ⌝ }
+    ensures { λ r. ⌜ (r ≡ inUnits field) × (natAbs r < 2 ^ 40) ⌝ }
+{
+    field * 1000
+}
+
 // An accepted instant from any place, of any body: the place's and the body's refusals, then the body's shot. The sine's table is
 // built here, once.
 fn shot_at(n: i64, q: i64, latitude: i64, longitude: i64, body: i64) -> Outcome
     requires { ⌜ InstantRange n × MillionthsRange q ⌝ }
-    ensures { λ r. ⌜ (r ≡ shotAt n q latitude longitude body) × InTurn r ⌝ }
+    ensures { λ r. ⌜ (valuesOf r ≡ shotAt n q latitude longitude body) × InTurn (valuesOf r) ⌝ }
 {
     if !exact::between(-3_204_000, latitude, 3_204_000) {
         return Outcome::Refused(Refusal::NoPlace);
@@ -141,18 +129,20 @@ fn shot_at(n: i64, q: i64, latitude: i64, longitude: i64, body: i64) -> Outcome
     if !exact::between(1, body, 2) {
         return Outcome::Refused(Refusal::NoBody);
     }
+    let phi = in_units(latitude);
+    let east = in_units(longitude);
     let t = sine::table();
     let sky = sky_of(&t, n, q);
     if exact::between(1, body, 1) {
-        sun_shot(&t, sky, latitude * 1000, longitude * 1000)
+        sun_shot(&t, sky, phi, east)
     } else {
-        polaris_shot(&t, sky, latitude * 1000, longitude * 1000)
+        polaris_shot(&t, sky, phi, east)
     }
 }
 
 // The shot with ten plain numbers, any numbers.
 pub fn shot(numbers: Numbers) -> Outcome
-    ensures { λ r. ⌜ (r ≡ shotOf numbers) × InTurn r ⌝ }
+    ensures { λ r. ⌜ (valuesOf r ≡ shotOf numbers) × InTurn (valuesOf r) ⌝ }
 {
     let t = CivilTime {
         year: numbers.year,
@@ -165,18 +155,27 @@ pub fn shot(numbers: Numbers) -> Outcome
     };
     match calendar::instant_of(t) {
         Instant::Accepted(n, q) => shot_at(n, q, numbers.latitude, numbers.longitude, numbers.body),
-        Instant::NoDate => Outcome::Refused(Refusal::NoDate),
-        Instant::NoTime => Outcome::Refused(Refusal::NoTime),
-        Instant::NoDut1 => Outcome::Refused(Refusal::NoDut1),
+        Instant::Refused(refusal) => Outcome::Refused(refusal),
     }
 }
 
-// The shot from a card: refusal 1 where a field is not confirmed, else the shot with its ten confirmed numbers.
-pub fn shot_from_card(card: Card) -> Outcome
-    ensures { λ r. ⌜ (r ≡ cardShot card) × InTurn r ⌝ }
+// An outcome, with the card that it came from.
+fn from_card(outcome: Outcome, card: Card) -> CardShot
+    ensures { λ r. ⌜ (r .outcome ≡ outcome) × (r .card ≡ card) ⌝ }
 {
-    let ConfirmedNumbers::All(numbers) = card::confirmed_numbers(card) else {
-        return Outcome::Refused(Refusal::NotConfirmed);
-    };
-    shot(numbers)
+    CardShot {
+        outcome: outcome,
+        card: card,
+    }
+}
+
+// The shot from a card: refusal 1 where a field is not confirmed, else the shot with its ten confirmed numbers. The card is answered as it
+// was given.
+pub fn shot_from_card(card: Card) -> CardShot
+    ensures { λ r. ⌜ (valuesOf (r .outcome) ≡ cardShot card) × (r .card ≡ card) × InTurn (valuesOf (r .outcome)) ⌝ }
+{
+    match card::confirmed_numbers(card) {
+        ConfirmedNumbers::All(numbers) => from_card(shot(numbers), card),
+        ConfirmedNumbers::Refused(refusal) => from_card(Outcome::Refused(refusal), card),
+    }
 }

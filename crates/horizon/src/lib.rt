@@ -6,7 +6,8 @@ ghost use lib.IntN.{natAbs, pos};
 ghost use Rattle.exact.specs.Angle.{turn};
 ghost use Rattle.sine.specs.Sine.{entries};
 ghost use Rattle.rotation.specs.Length.{squaredLength, reach, growth, componentMost};
-ghost use Rattle.horizon.specs.Horizon.{meridian, horizon, sighted, sighting, meaning, Reduced, horizontalSquare, squareMost};
+ghost use Rattle.horizon.specs.Horizon.{meridian, horizon, view, viewFrom, sightOf, sightValues, Reduced, horizontalSquare, squareMost};
+use refusal::Refusal;
 use rotation::Direction;
 use sine::SineTable;
 
@@ -17,11 +18,10 @@ pub struct Angles {
     pub hour: u64,
 }
 
-// What a sight of the body gives: its angles, or the refusals 7 and 8.
+// What a sight of the body gives: its angles, or refusal 7 or 8.
 pub enum Sighting {
     Seen(Angles),
-    BelowHorizon,
-    NearZenith,
+    Refused(Refusal),
 }
 
 // North² + east² is at least this: nearer to the zenith, or to the nadir, an azimuth is refused.
@@ -56,14 +56,14 @@ fn horizontal_square(north: i64, east: i64) -> u64
 // The angles of a body, from x' and its components up, east and north; refusal 7 before 8.
 fn sight_of(t: &SineTable, x: i64, up: i64, east: i64, north: i64) -> Sighting
     requires { ⌜ (now t ≡ entries) × (natAbs x ≤ componentMost) × (natAbs up ≤ componentMost) × (natAbs east ≤ componentMost) × (natAbs north ≤ componentMost) ⌝ }
-    ensures { λ r. ⌜ (meaning r ≡ sighted x up east north) × Reduced r ⌝ }
+    ensures { λ r. ⌜ (sightValues r ≡ sightOf (view x up east north)) × Reduced r ⌝ }
 {
     if up < 0 {
-        return Sighting::BelowHorizon;
+        return Sighting::Refused(Refusal::BelowHorizon);
     }
     let square = horizontal_square(north, east);
     if square < LEAST_SQUARE {
-        return Sighting::NearZenith;
+        return Sighting::Refused(Refusal::NearZenith);
     }
     let h = exact::root(square) as i64;
     Sighting::Seen(Angles {
@@ -76,7 +76,7 @@ fn sight_of(t: &SineTable, x: i64, up: i64, east: i64, north: i64) -> Sighting
 // What an observer sees of a body in direction d, at a sidereal time of Greenwich.
 pub fn sight(t: &SineTable, d: Direction, sidereal: u64, latitude: i64, longitude: i64) -> Sighting
     requires { ⌜ (now t ≡ entries) × (squaredLength d + 2 * growth ≤ reach) × (sidereal < turn) × (natAbs latitude < 2 ^ 40) × (natAbs longitude < 2 ^ 40) ⌝ }
-    ensures { λ r. ⌜ (meaning r ≡ sighting (pos sidereal) latitude longitude d) × Reduced r ⌝ }
+    ensures { λ r. ⌜ (sightValues r ≡ sightOf (viewFrom (pos sidereal) latitude longitude d)) × Reduced r ⌝ }
 {
     let m = to_meridian(t, d, sidereal, longitude);
     let h = to_horizon(t, m, latitude);

@@ -1,121 +1,106 @@
--- Reading a field into a part of the buffer that is as long as the blank one. Assumes nothing.
-use Prim.Native.Nat.{ℕ, suc, _+_, _-_, _<_, _≤_}
+-- Reading a field into a part of the buffer that has room for every number of 64 bits: the buffer refuses nothing, so that what is answered
+-- goes by the field alone. Assumes nothing.
+use Prim.Native.Nat.{ℕ, suc, _+_, _-_, _^_, _<_, _≤_}
 use native.Mathlib.Omega.{arith}
 use mathlib.Core.Path.{_≡_, refl, sym, ap, _∙_}
-use mathlib.Core.Bool.{Bool, true, false, cond}
+use mathlib.Core.Bool.{Bool, true, cond}
 use mathlib.Core.List.{List, [], _∷_, _++_}
-use borrow.Author.Tests.{eq-eqb, ne-eqb, leb-true}
+use borrow.Author.Tests.{le-leb}
 use borrow.Rule.Slice.PartMut.{putMid}
-use lib.Dec.{leb}
-use lib.IntN.{ℤ}
-use lib.ListN.{length, take, drop, replicate, length-take, length-drop}
+use lib.IntN.{ℤ, pos, negsuc, natAbs}
+use lib.ListN.{length, take, drop, length-take, length-drop, length-append}
 use lib.Seq.{take-at, drop-at, take-add, take-append-le, length-take-le}
+use Rattle.refusal.specs.declared.Refusal.{Refusal}
+use Rattle.refusal.specs.Numbers.{numberOf}
+use Rattle.refusal.specs.Tests.{test, decided}
+use Rattle.refusal.proofs.Decisions.{Refusable, decided-append, handed-on, passed-on}
 use Rattle.digits.specs.Text.{text}
 use Rattle.digits.specs.Writing.{fits, over}
+use Rattle.digits.proofs.Decimal.{length-digits-64}
 use Rattle.card.specs.declared.Card.{Card}
-use Rattle.card.specs.declared.Held.{Held}
-use Rattle.card.specs.declared.Held.the-variants.{Number, Nothing}
-use Rattle.card.specs.declared.Place.{Place}
-use Rattle.card.specs.declared.Place.the-variants.{At, Nowhere}
-use Rattle.card.specs.declared.ReadAnswer.{ReadAnswer}
-use Rattle.card.specs.Fields.{placeOf, fieldAt, fieldIn, fieldOf, put}
-use Rattle.card.specs.Calls.{accepted, noRoom, numberIn, readState, readAnswer, readingNumber, readingAt, reading, bufferHolding, bufferAfter}
+use Rattle.card.specs.Fields.{numberIn, fieldOf}
+use Rattle.card.specs.Calls.{ReadValues, writtenOut, notWritten, readCard, heldTests, reading, bufferAfter}
 use Rattle.lines.specs.Writing.{Appends}
-use Rattle.replies.specs.Answers.{longest, refusalText, blank, read, readText}
+use Rattle.replies.specs.Answers.{longest, refusalText, readText, cardRead}
 
--- a part of the buffer comes back with k bytes at its front
-pub take-part : (at n k : ℕ) (l y : List ℕ) → at ≤ length l → k ≤ length y → take (at + k) (putMid at n l y) ≡ take at l ++ take k y
+-- every number of 64 bits has room
+text-fits : (z : ℤ) → natAbs z < 2 ^ 64 → length (text z) ≤ longest
+text-fits (pos n) h = let l = length-digits-64 n h in omega arith
+text-fits (negsuc n) h = let l = length-digits-64 (suc n) h in omega arith
+
+-- what a reading of a card answers
+abbrev readings : Card → Refusable ReadValues
+readings c = record { number = λ v. v .refusal; refused = notWritten c; gives = λ k. refl }
+
+module _ (c : Card) (f : ℤ) (l : List ℕ) (e : length l ≡ longest) (small : natAbs (numberIn (fieldOf c f)) < 2 ^ 64) where
+  abbrev z : ℤ
+  z = numberIn (fieldOf c f)
+
+  abbrev wrote : ReadValues
+  wrote = writtenOut (length (text z)) (readCard c f)
+
+  has-room : fits l 0 z ≡ true
+  has-room = let t = text-fits z small in le-leb (0 + length (text z)) (length l) (omega arith)
+
+  -- the third test passes, so that the first two decide
+  by-two : {A : Type 0} (a : A) (refused : ℕ → A) → decided (heldTests c f ++ test (fits l 0 z) 11 ∷ []) a refused ≡ decided (heldTests c f) a refused
+  by-two a refused =
+      decided-append (heldTests c f) (test (fits l 0 z) 11 ∷ []) a refused
+      ∙ ap (λ (b : Bool). decided (heldTests c f) (cond b a (refused 11)) refused) has-room
+
+  -- what a decision by the first two gives, where the reading wrote and where it was refused
+  wrote-so : {B : Type 0} (b : B) (refused : ℕ → B) (k : ℕ) (d : Card) → writtenOut k d ≡ reading c f l 0 → b ≡ decided (heldTests c f) b refused
+  wrote-so b refused k d w =
+      passed-on (readings c) wrote refl b refused (heldTests c f) (omega arith, (omega arith, tt)) (ap (λ (a : ReadValues). a .refusal) (w ∙ by-two wrote (notWritten c)))
+
+  refused-so : {B : Type 0} (b : B) (refused : ℕ → B) (r : Refusal) (d : Card) → notWritten d (numberOf r) ≡ reading c f l 0
+      → refused (numberOf r) ≡ decided (heldTests c f) b refused
+  refused-so b refused r d w =
+      handed-on (readings c) wrote refl b refused (heldTests c f) r (ap (λ (a : ReadValues). a .refusal) (w ∙ by-two wrote (notWritten c)))
+
+  -- a reading that wrote k bytes wrote the text
+  pub said : (k : ℕ) (d : Card) → writtenOut k d ≡ reading c f l 0
+      → (k ≡ length (readText c f)) × (d ≡ cardRead c f) × (bufferAfter c f l 0 ≡ over l 0 (readText c f)) × (k ≤ longest)
+  unfolding readText cardRead
+  said k d w =
+      let same = w ∙ by-two wrote (notWritten c) ∙ sym (wrote-so wrote (notWritten c) k d w) in
+      let t = wrote-so (text z) refusalText k d w in
+      let n = ap (λ (a : ReadValues). a .length) same in
+      let s = text-fits z small in (
+        n ∙ ap length t,
+        ap (λ (a : ReadValues). a .card) same ∙ wrote-so (readCard c f) (λ k. c) k d w,
+        by-two (over l 0 (text z)) (λ k. l) ∙ sym (wrote-so (over l 0 (text z)) (λ k. l) k d w) ∙ ap (over l 0) t,
+        omega arith,
+      )
+
+  -- one that was refused was refused by the field
+  pub not-said : (r : Refusal) (d : Card) → notWritten d (numberOf r) ≡ reading c f l 0 → (refusalText (numberOf r) ≡ readText c f) × (d ≡ cardRead c f)
+  unfolding readText cardRead
+  not-said r d w =
+      let same = w ∙ by-two wrote (notWritten c) ∙ sym (refused-so wrote (notWritten c) r d w) in
+      (refused-so (text z) refusalText r d w, ap (λ (a : ReadValues). a .card) same ∙ refused-so (readCard c f) (λ k. c) r d w)
+
+-- ---- the part of a buffer that is lent
+-- it comes back with k bytes at its front
+take-part : (at n k : ℕ) (l y : List ℕ) → at ≤ length l → k ≤ length y → take (at + k) (putMid at n l y) ≡ take at l ++ take k y
 take-part at n k l y h r =
     let e = length-take-le at l h in
     take-add at k (putMid at n l y)
     ∙ rw (take-at (take at l) (y ++ drop n (drop at l)) at e, drop-at (take at l) (y ++ drop n (drop at l)) at e, take-append-le k y (drop n (drop at l)) r)
 
--- the part that is lent is as long as the blank buffer
+-- it is as long as the longest answer
 pub part-length : (at : ℕ) (l : List ℕ) → at + longest ≤ length l → length (take (at + longest - at) (drop at l)) ≡ longest
 part-length at l h = simp (length-take, length-drop) (omega arith)
 
--- the text that a reading writes
-textOf : Held → List ℕ
-textOf Nothing = []
-textOf (Number z) = text z
-
--- a reading into l that was accepted: its length and what it wrote
-record Wrote (l : List ℕ) (a : ReadAnswer) (after t : List ℕ) : Type 0 where
-  pub size : a .length ≡ length t
-  pub within : a .length ≤ length l
-  pub wrote : take (a .length) after ≡ t
-
-module _ (l : List ℕ) (c : Card) (i : ℕ) where
-  by-fit : (q : Bool) (z : ℤ) (after : Card) → (q ≡ true → 0 + length (text z) ≤ length l)
-      → cond q (readAnswer accepted (length (text z)) after) (readAnswer noRoom 0 c) .refusal ≡ accepted
-      → Wrote l (cond q (readAnswer accepted (length (text z)) after) (readAnswer noRoom 0 c)) (cond q (over l 0 (text z)) l) (text z)
-  by-fit true z after h e = record { size = refl; within = let k = h refl in omega arith; wrote = take-at (text z) (drop (0 + length (text z)) l) (length (text z)) refl }
-  by-fit false z after h e = absurd (omega arith)
-
-  held : (h : Held) → readingNumber h c i l 0 .refusal ≡ accepted → Wrote l (readingNumber h c i l 0) (bufferHolding h l 0) (textOf h)
-  unfolding textOf
-  held Nothing e = absurd (omega arith)
-  held (Number z) e = by-fit (fits l 0 z) z (put c i (readState (fieldAt c i))) (leb-true (0 + length (text z)) (length l)) e
-
-placed : (l : List ℕ) (c : Card) (p : Place) → readingAt p c l 0 .refusal ≡ accepted
-    → Wrote l (readingAt p c l 0) (bufferHolding (numberIn (fieldIn p c)) l 0) (textOf (numberIn (fieldIn p c)))
-placed l c Nowhere e = absurd (omega arith)
-placed l c (At i) e = held l c i (numberIn (fieldAt c i)) e
-
--- the buffer's length alone decides what a reading answers
-module _ (c : Card) (l : List ℕ) (e : length l ≡ longest) where
-  same-held : (h : Held) (i : ℕ) → readingNumber h c i l 0 ≡ readingNumber h c i blank 0
-  same-held Nothing i = refl
-  same-held (Number z) i = rw e
-
-  same-place : (p : Place) → readingAt p c l 0 ≡ readingAt p c blank 0
-  same-place Nowhere = refl
-  same-place (At i) = same-held (numberIn (fieldAt c i)) i
-
-  module _ (f : ℤ) where
-    pub same-answer : reading c f l 0 ≡ read c f
-    same-answer = same-place (placeOf f)
-
-    pub refused : (reading c f l 0 .refusal ≡ accepted → ⊥) → refusalText (reading c f l 0 .refusal) ≡ readText c f
-    refused d = rw same-answer (let n : read c f .refusal ≡ accepted → ⊥ = λ k. d (ap (λ a. a .refusal) same-answer ∙ k) in rw (ne-eqb (read c f .refusal) accepted n))
-
-    -- what was written is the answer
-    module _ (k : reading c f l 0 .refusal ≡ accepted) where
-      pub said : take (reading c f l 0 .length) (bufferAfter c f l 0) ≡ readText c f
-      said =
-          let r : read c f .refusal ≡ accepted = sym (ap (λ a. a .refusal) same-answer) ∙ k in
-          placed l c (placeOf f) k .wrote ∙ rw (eq-eqb (read c f .refusal) accepted r) (sym (placed blank c (placeOf f) r .wrote))
-
-      pub said-number : (z : ℤ) → numberIn (fieldOf c f) ≡ Number z → readText c f ≡ text z
-      unfolding textOf
-      said-number z e = sym said ∙ placed l c (placeOf f) k .wrote ∙ ap textOf e
-
-      pub said-size : reading c f l 0 .length ≡ length (readText c f)
-      said-size = placed l c (placeOf f) k .size ∙ ap length (sym (placed l c (placeOf f) k .wrote) ∙ said)
-
-      pub said-within : reading c f l 0 .length ≤ longest
-      said-within = let w = placed l c (placeOf f) k .within in omega arith
-
--- appended to the buffer of which l was a part
-pub appended : (c : Card) (f : ℤ) (out y : List ℕ) (at : ℕ) (a : ReadAnswer) → at + longest ≤ length out
-    → a ≡ reading c f (take (at + longest - at) (drop at out)) 0 → y ≡ bufferAfter c f (take (at + longest - at) (drop at out)) 0
-    → length y ≡ length (take (at + longest - at) (drop at out)) → a .refusal ≡ accepted
-    → Appends out at (readText c f) (putMid at (at + longest - at) out y) (at + a .length) × (a .length ≤ longest)
-appended c f out y at a h e g n k =
+-- the text that was written at its front is appended to the buffer
+pub appended : (out y t : List ℕ) (at k : ℕ) → at + longest ≤ length out → k ≡ length t → k ≤ longest
+    → y ≡ over (take (at + longest - at) (drop at out)) 0 t → Appends out at t (putMid at (at + longest - at) out y) (at + k)
+appended out y t at k h e w g =
     let l = take (at + longest - at) (drop at out) in
     let p = part-length at out h in
-    let t = sym (ap (λ a. a .refusal) e) ∙ k in
-    let w = said-within c l p f t in
-    let m = ap (λ a. a .length) e in
-    let s = said-size c l p f t in (
-      record {
-        ends = omega arith;
-        holds =
-            take-part at (at + longest - at) (a .length) out y (omega arith) (omega arith)
-            ∙ ap (λ (x : List ℕ). take at out ++ x) (rw (e, g) (said c l p f t));
-      },
-      omega arith,
-    )
+    let s : take k y ≡ t = rw g (take-at t (drop (0 + length t) l) k (sym e)) in
+    let n : k ≤ length y = rw g (simp (length-append) (omega arith)) in
+    record { ends = omega arith; holds = take-part at (at + longest - at) k out y (omega arith) n ∙ ap (λ (x : List ℕ). take at out ++ x) s }
 
 -- what is appended there instead, where the reading was refused
 pub appended-instead : (out y x t : List ℕ) (at k : ℕ) → at + longest ≤ length out

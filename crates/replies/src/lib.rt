@@ -1,24 +1,30 @@
 // The line protocols of the two programs: what a line asks, and what it is answered.
+use card::Answer;
 use card::Card;
 use card::Numbers;
+use card::Reading;
 use fieldbook::Angles;
 use fieldbook::Outcome;
 use lines::Row;
+use refusal::Refusal;
+use refusal::Verdict;
 ghost use mathlib.Core.Path.{_≡_};
 ghost use Prim.Native.Nat.{suc, _+_, _≤_};
+ghost use mathlib.Core.List.{_++_};
 ghost use lib.ListN.{length};
 ghost use Rattle.lines.specs.Numbers.{listed};
 ghost use Rattle.lines.specs.Writing.{Appends};
 ghost use Rattle.replies.specs.Commands.{fieldCommand, spoken, sessionCommand, plainShot, commandOf};
-ghost use Rattle.replies.specs.Answers.{longest, labelled, refusalText, outcomeText, read, readText, directionText, furtherText, shotText, plainShotText, answerText, cardAfter, reply, next};
+ghost use Rattle.card.specs.Calls as Calls;
+ghost use Rattle.refusal.specs.Numbers.{numberOf, verdictNumber};
+ghost use Rattle.fieldbook.specs.Shot.{valuesOf};
+ghost use Rattle.fieldbook.specs.declared.Outcome.the-variants.{Answered};
+ghost use Rattle.replies.specs.Answers.{longest, labelled, refusalText, verdictText, readText, cardRead, directionText, furtherText, shotText, plainShotText, answerText, cardAfter, reply, next};
 
 // The most digits of a number in a line of the session, and of the batch.
 const SESSION_DIGITS: usize = 9;
 
 const BATCH_DIGITS: usize = 18;
-
-// The refusal of a line that is not of its program's form.
-const MALFORMED: u64 = 14;
 
 // The most bytes that an answer takes, without its newline.
 const LONGEST: usize = 95;
@@ -139,63 +145,87 @@ fn append_labelled(out: &mut [u8], at: usize, label: &[u8], n: u64) -> usize
     lines::append_decimal(out, end, n)
 }
 
-// Appends `no` and a refusal number.
-fn append_refusal(out: &mut [u8], at: usize, n: u64) -> usize
-    requires { ⌜ at + longest ≤ length (now out) ⌝ }
-    ensures { λ r. ⌜ Appends (now (out .entry)) at (refusalText n) (now (out .exit)) r ⌝ }
-    ensures { λ r. ⌜ r ≤ at + longest ⌝ }
+// Appends two labels, each with its number.
+fn append_pair(out: &mut [u8], at: usize, first: &[u8], m: u64, second: &[u8], n: u64) -> usize
+    requires { ⌜ at + (length (now first) + length (now second) + 40) ≤ length (now out) ⌝ }
+    ensures { λ r. ⌜ Appends (now (out .entry)) at (labelled (now (first .entry)) m ++ labelled (now (second .entry)) n) (now (out .exit)) r ⌝ }
+    ensures { λ r. ⌜ r ≤ at + (length (now (first .entry)) + length (now (second .entry)) + 40) ⌝ }
 {
-    append_labelled(out, at, b"no ", n)
+    let end = append_labelled(out, at, first, m);
+    append_labelled(out, end, second, n)
 }
 
-// Appends `ok` for 0, and a refusal for any other number.
-fn append_outcome(out: &mut [u8], at: usize, n: u64) -> usize
+// Appends `no` and the number of a refusal.
+fn append_refusal(out: &mut [u8], at: usize, refusal: Refusal) -> usize
     requires { ⌜ at + longest ≤ length (now out) ⌝ }
-    ensures { λ r. ⌜ Appends (now (out .entry)) at (outcomeText n) (now (out .exit)) r ⌝ }
+    ensures { λ r. ⌜ Appends (now (out .entry)) at (refusalText (numberOf refusal)) (now (out .exit)) r ⌝ }
     ensures { λ r. ⌜ r ≤ at + longest ⌝ }
 {
-    if n == 0 {
-        return lines::append_bytes(out, at, b"ok");
+    append_labelled(out, at, b"no ", refusal::number_of(refusal))
+}
+
+// Appends `ok`, or a refusal.
+fn append_verdict(out: &mut [u8], at: usize, verdict: Verdict) -> usize
+    requires { ⌜ at + longest ≤ length (now out) ⌝ }
+    ensures { λ r. ⌜ Appends (now (out .entry)) at (verdictText (verdictNumber verdict)) (now (out .exit)) r ⌝ }
+    ensures { λ r. ⌜ r ≤ at + longest ⌝ }
+{
+    match verdict {
+        Verdict::Accepted => lines::append_bytes(out, at, b"ok"),
+        Verdict::Refused(refusal) => append_refusal(out, at, refusal),
     }
-    append_refusal(out, at, n)
+}
+
+// Appends the verdict of a call on a card, and hands on the card.
+fn append_answer(out: &mut [u8], at: usize, answer: Answer) -> Reply
+    requires { ⌜ at + longest ≤ length (now out) ⌝ }
+    ensures { λ r. ⌜ r .card ≡ Calls.valuesOf answer .card ⌝ }
+    ensures { λ r. ⌜ Appends (now (out .entry)) at (verdictText (Calls.valuesOf answer .refusal)) (now (out .exit)) (r .end) ⌝ }
+    ensures { λ r. ⌜ r .end ≤ at + longest ⌝ }
+{
+    let after = answer.card;
+    let verdict = answer.verdict;
+    let end = append_verdict(out, at, verdict);
+    Reply {
+        card: after,
+        end: end,
+    }
 }
 
 // Appends azimuth and zenith distance.
 fn append_directions(out: &mut [u8], at: usize, a: Angles) -> usize
     requires { ⌜ at + 47 ≤ length (now out) ⌝ }
-    ensures { λ r. ⌜ Appends (now (out .entry)) at (directionText a) (now (out .exit)) r ⌝ }
+    ensures { λ r. ⌜ Appends (now (out .entry)) at (directionText (valuesOf (Answered a))) (now (out .exit)) r ⌝ }
     ensures { λ r. ⌜ r ≤ at + 47 ⌝ }
 {
-    let end = append_labelled(out, at, b"az ", a.azimuth);
-    append_labelled(out, end, b" zd ", a.zenith)
+    append_pair(out, at, b"az ", a.azimuth, b" zd ", a.zenith)
 }
 
 // Appends hour angle and apparent longitude.
 fn append_further(out: &mut [u8], at: usize, a: Angles) -> usize
     requires { ⌜ at + 47 ≤ length (now out) ⌝ }
-    ensures { λ r. ⌜ Appends (now (out .entry)) at (furtherText a) (now (out .exit)) r ⌝ }
+    ensures { λ r. ⌜ Appends (now (out .entry)) at (furtherText (valuesOf (Answered a))) (now (out .exit)) r ⌝ }
     ensures { λ r. ⌜ r ≤ at + 47 ⌝ }
 {
-    let end = append_labelled(out, at, b" ha ", a.hour_angle);
-    append_labelled(out, end, b" s ", a.longitude)
+    append_pair(out, at, b" ha ", a.hour_angle, b" s ", a.longitude)
 }
 
 // Appends the answer to a shot from a card.
 fn append_shot(out: &mut [u8], at: usize, shot: Outcome) -> usize
     requires { ⌜ at + longest ≤ length (now out) ⌝ }
-    ensures { λ r. ⌜ Appends (now (out .entry)) at (shotText shot) (now (out .exit)) r ⌝ }
+    ensures { λ r. ⌜ Appends (now (out .entry)) at (shotText (valuesOf shot)) (now (out .exit)) r ⌝ }
     ensures { λ r. ⌜ r ≤ at + longest ⌝ }
 {
     match shot {
         Outcome::Answered(a) => append_directions(out, at, a),
-        Outcome::Refused(r) => append_refusal(out, at, fieldbook::refusal_number(r)),
+        Outcome::Refused(refusal) => append_refusal(out, at, refusal),
     }
 }
 
 // Appends the answer to a shot with plain numbers.
 fn append_plain_shot(out: &mut [u8], at: usize, shot: Outcome) -> usize
     requires { ⌜ at + longest ≤ length (now out) ⌝ }
-    ensures { λ r. ⌜ Appends (now (out .entry)) at (plainShotText shot) (now (out .exit)) r ⌝ }
+    ensures { λ r. ⌜ Appends (now (out .entry)) at (plainShotText (valuesOf shot)) (now (out .exit)) r ⌝ }
     ensures { λ r. ⌜ r ≤ at + longest ⌝ }
 {
     match shot {
@@ -203,28 +233,25 @@ fn append_plain_shot(out: &mut [u8], at: usize, shot: Outcome) -> usize
             let end = append_directions(out, at, a);
             append_further(out, end, a)
         }
-        Outcome::Refused(r) => append_refusal(out, at, fieldbook::refusal_number(r)),
+        Outcome::Refused(refusal) => append_refusal(out, at, refusal),
     }
 }
 
-// Reads a field out.
+// Reads a field out. A part of the buffer that has room for every number of 64 bits is lent, so that the reading always has room.
 fn read_out(card: Card, field: i64, out: &mut [u8], at: usize) -> Reply
     requires { ⌜ at + longest ≤ length (now out) ⌝ }
-    ensures { λ r. ⌜ r .card ≡ read card field .card ⌝ }
+    ensures { λ r. ⌜ r .card ≡ cardRead card field ⌝ }
     ensures { λ r. ⌜ Appends (now (out .entry)) at (readText card field) (now (out .exit)) (r .end) ⌝ }
     ensures { λ r. ⌜ r .end ≤ at + longest ⌝ }
 {
     let end = at + LONGEST;
     let r = card::read(card, field, &mut out[at..end], 0);
     let after = r.card;
-    let refusal = r.refusal;
-    if refusal == 0 {
-        return Reply {
-            card: after,
-            end: at + r.length,
-        };
-    }
-    let end = append_refusal(out, at, refusal);
+    let reading = r.reading;
+    let end = match reading {
+        Reading::Written(length) => at + length,
+        Reading::Refused(refusal) => append_refusal(out, at, refusal),
+    };
     Reply {
         card: after,
         end: end,
@@ -239,29 +266,16 @@ fn obey(command: Command, card: Card, out: &mut [u8], at: usize) -> Reply
     ensures { λ r. ⌜ r .end ≤ at + longest ⌝ }
 {
     match command {
-        Command::Hear(field, number) => {
-            let r = card::hear(card, field, number);
-            let heard = r.card;
-            let end = append_outcome(out, at, r.refusal);
-            Reply {
-                card: heard,
-                end: end,
-            }
-        }
+        Command::Hear(field, number) => append_answer(out, at, card::hear(card, field, number)),
         Command::Read(field) => read_out(card, field, out, at),
-        Command::Confirm(field) => {
-            let r = card::confirm(card, field);
-            let confirmed = r.card;
-            let end = append_outcome(out, at, r.refusal);
-            Reply {
-                card: confirmed,
-                end: end,
-            }
-        }
+        Command::Confirm(field) => append_answer(out, at, card::confirm(card, field)),
         Command::Shoot => {
-            let end = append_shot(out, at, fieldbook::shot_from_card(card));
+            let r = fieldbook::shot_from_card(card);
+            let kept = r.card;
+            let outcome = r.outcome;
+            let end = append_shot(out, at, outcome);
             Reply {
-                card: card,
+                card: kept,
                 end: end,
             }
         }
@@ -273,7 +287,7 @@ fn obey(command: Command, card: Card, out: &mut [u8], at: usize) -> Reply
             }
         }
         Command::Malformed => {
-            let end = append_outcome(out, at, MALFORMED);
+            let end = append_refusal(out, at, Refusal::Malformed);
             Reply {
                 card: card,
                 end: end,

@@ -12,13 +12,8 @@ use Rattle.card.specs.Fields.{freshCard}
 use Rattle.replies.specs.declared.Protocol.{Protocol}
 use Rattle.replies.specs.Answers.{reply, next}
 use Rattle.stream.specs.Run.{lastLine, linesBehind, replies, run}
-use Rattle.stream.specs.Feeding.{Progress, behind, progress, lastReply, keptLength, feedAll}
+use Rattle.stream.specs.Feeding.{Progress, behind, progress, lastReply, keptLength, progressAll, feedAll, joined}
 use Rattle.stream.proofs.Keeping.{reply-kept, next-kept}
-
--- the chunks, put together
-unfoldable pub joined : List (List ℕ) → List ℕ
-joined [] = []
-joined (chunk ∷ chunks) = chunk ++ joined chunks
 
 -- what is kept after one byte more
 take-more : (n : ℕ) (l : List ℕ) (b : ℕ) → take n (take n l ++ (b ∷ [])) ≡ take n (l ++ (b ∷ []))
@@ -86,14 +81,16 @@ module _ (p : Protocol) where
   last c (a ∷ g) [] e = absurd (let n = ap length e in omega arith)
   last c (a ∷ g) (b ∷ h) e = alike-reply c (a ∷ g) (b ∷ h) e ∙ sym (append-nil (reply p c (b ∷ h)))
 
-  chunks-from : (c : Card) (g h : List ℕ) (chunks : List (List ℕ)) → Alike g h → feedAll p c g chunks ≡ replies p c (linesBehind h (joined chunks))
-  unfolding feedAll joined linesBehind Alike
+  chunks-from : (c : Card) (g h : List ℕ) (chunks : List (List ℕ)) → Alike g h
+      → progressAll p c g chunks .output ++ lastReply p (progressAll p c g chunks .card) (progressAll p c g chunks .line)
+      ≡ replies p c (linesBehind h (joined chunks))
+  unfolding progressAll joined linesBehind Alike
   chunks-from c g h [] e = last c g h e
   chunks-from c g h (l ∷ chunks) e =
       let s = alike-progress c g h l e in
       let i = chunks-from (progress p c g l .card) (take keptLength (progress p c g l .line)) (progress p c h l .line) chunks (take-take keptLength keptLength (progress p c g l .line) (omega arith) ∙ s .line) in
-      rw (i, s .output, s .card) (sym (part c h l (joined chunks)))
+      append-assoc (progress p c g l .output) _ _ ∙ rw (i, s .output, s .card) (sym (part c h l (joined chunks)))
 
-  pub any-chunks : (chunks : List (List ℕ)) → feedAll p freshCard [] chunks ≡ run p (joined chunks)
+  pub any-chunks : (chunks : List (List ℕ)) → feedAll p chunks ≡ run p (joined chunks)
   unfolding Alike
   any-chunks chunks = chunks-from freshCard [] [] chunks refl

@@ -71,8 +71,7 @@ module _ (p : Protocol) (first s : State) (chunk l o : List ℕ) (e : behind o (
       let r = sym (ap (behind o) (rest-left p (s .card) (held (s .kept)) l h)) ∙ e in
       record {
         wrote = sym (append-nil o) ∙ ap (λ (q : Progress). q .output) r;
-        card = f ∙ ap (λ (q : Progress). q .card) r;
-        line = g ∙ ap (λ (q : Progress). take keptLength (q .line)) r;
+        keeps = record { card = f ∙ ap (λ (q : Progress). q .card) r; line = g ∙ ap (λ (q : Progress). take keptLength (q .line)) r };
       }
 
   -- no rest is left

@@ -1,11 +1,10 @@
--- THE RUN of a program: what it writes for a whole input (document 01, "One session, whole"). A newline ends a line; the last may lack it.
--- Every line has one line of output. Definitions, with examples; assumes nothing.
+-- THE RUN of a program: what it writes for a whole input (document 01, "One session, whole"). What stands behind the
+-- last newline is a line too, unless it is nothing. Every line has one line of output. Definitions, with examples; assumes nothing.
 use Prim.Native.Nat.{ℕ}
 use mathlib.Core.Path.{_≡_, refl}
 use mathlib.Core.Bool.{cond}
 use mathlib.Core.List.{List, [], _∷_, _++_}
 use lib.Dec.{eqb}
-use lib.ListN.{length}
 use Rattle.card.specs.declared.Card.{Card}
 use Rattle.card.specs.Fields.{freshCard}
 use Rattle.replies.specs.declared.Protocol.{Protocol}

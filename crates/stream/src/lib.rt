@@ -5,12 +5,12 @@ use libc::STDOUT_FILENO;
 use replies::Protocol;
 ghost use mathlib.Core.Path.{_≡_};
 ghost use mathlib.Core.List.{[], _++_};
-ghost use Prim.Native.Nat.{suc, _+_, _*_, _≤_};
+ghost use Prim.Native.Nat.{_+_, _*_, _≤_};
 ghost use lib.ListN.{length, take};
 ghost use Rattle.card.specs.Fields.{freshCard};
 ghost use Rattle.lines.specs.Writing.{Appends};
 ghost use Rattle.replies.specs.Answers.{reply, next};
-ghost use Rattle.stream.specs.Feeding.{keptLength, held, chunkLength, room, lastReply, Feeds};
+ghost use Rattle.stream.specs.Feeding.{keptLength, held, chunkLength, room, lastReply, Feeds, Reached, Completes};
 
 // The bytes that are kept of an unfinished line: one more than the longest line has that is not malformed.
 const KEPT: usize = 200;
@@ -183,45 +183,42 @@ pub fn finish(protocol: Protocol, state: State, out: &mut [u8]) -> usize
     fed.end
 }
 
-// The state after a read, and whether the input goes on.
+// What a read brought: how many bytes, and what they made.
 struct Turn {
-    state: State,
-    more: bool,
+    came: usize,
+    fed: Fed,
 }
 
-// Reads once, and writes the answers to what came.
-fn feed_some(protocol: Protocol, state: State, out: &mut [u8]) -> Turn
-    requires { ⌜ chunkLength * room ≤ length (now out) ⌝ }
+// Reads once, and answers what came; nothing comes where the input has ended or cannot be read. No contract can say which bytes the system reads: here
+// they are what the call left at the front of `input`.
+fn feed_some(protocol: Protocol, state: State, input: &mut [u8], out: &mut [u8]) -> Turn
+    requires { ⌜ length (now input) * room ≤ length (now out) ⌝ }
+    ensures { λ r. ⌜ Feeds protocol state (take (r .came) (now (input .exit))) (r .fed .state) (take (r .fed .end) (now (out .exit))) ⌝ }
+    ensures { λ r. ⌜ r .came ≤ length (now (input .entry)) ⌝ }
+    ensures { λ r. ⌜ r .fed .end ≤ length (now (out .entry)) ⌝ }
 {
-    let mut input = [0u8; CHUNK];
-    let got = libc::read(STDIN_FILENO, &mut input);
-    if got <= 0 {
-        return Turn {
-            state: state,
-            more: false,
-        };
-    }
-    let n = io::count(got, &input);
+    let got = libc::read(STDIN_FILENO, input);
+    let n = io::count(got, input);
     let fed = feed(protocol, state, &input[..n], out);
-    let after = fed.state;
-    let end = fed.end;
-    let more = io::write_all(STDOUT_FILENO, &out[..end]);
-    Turn {
-        state: after,
-        more: more,
-    }
+    Turn { came: n, fed: fed }
 }
 
-// Reads to the input's end. A proved loop has to end, so this one counts its turns down from a number that no run uses up.
+// Reads to the input's end, and writes what each chunk made before it reads the next; a write that fails ends it too. No contract can say what the
+// system writes. A proved loop has to end, so this one counts its turns down from a number that no run uses up.
 fn feed_input(protocol: Protocol, out: &mut [u8]) -> State
     requires { ⌜ chunkLength * room ≤ length (now out) ⌝ }
+    ensures { λ r. ⌜ Reached protocol r ⌝ }
 {
+    let mut input = [0u8; CHUNK];
     let mut state = start();
     let mut turns = u64::MAX;
     while turns > 0 {
-        let turn = feed_some(protocol, state, out);
-        state = turn.state;
-        if !turn.more {
+        let turn = feed_some(protocol, state, &mut input, out);
+        let fed = turn.fed;
+        let end = fed.end;
+        state = fed.state;
+        let written = io::write_all(STDOUT_FILENO, &out[..end]);
+        if turn.came == 0 || !written {
             break;
         }
         turns -= 1;
@@ -229,17 +226,24 @@ fn feed_input(protocol: Protocol, out: &mut [u8]) -> State
     state
 }
 
-// Reads to the input's end, and answers a last line that lacks its newline.
-fn run_with(protocol: Protocol, out: &mut [u8])
+// Reads to the input's end, and answers a last line that lacks its newline: what stands at the front of `out` then is yet to be written.
+fn run_with(protocol: Protocol, out: &mut [u8]) -> Fed
     requires { ⌜ chunkLength * room ≤ length (now out) ⌝ }
+    ensures { λ r. ⌜ Completes protocol (r .state) (take (r .end) (now (out .exit))) ⌝ }
+    ensures { λ r. ⌜ r .end ≤ length (now (out .entry)) ⌝ }
 {
     let last = feed_input(protocol, out);
     let end = finish(protocol, last, out);
-    io::write_all(STDOUT_FILENO, &out[..end]);
+    Fed {
+        state: last,
+        end: end,
+    }
 }
 
 // Runs a program: reads standard input to its end and writes the answers of each chunk as it comes in.
 pub fn run(protocol: Protocol) {
     let mut output = [0u8; OUTPUT];
-    run_with(protocol, &mut output);
+    let fed = run_with(protocol, &mut output);
+    let end = fed.end;
+    io::write_all(STDOUT_FILENO, &output[..end]);
 }

@@ -1,6 +1,7 @@
--- DEMAND 3, SECOND HALF: the Sun's apparent longitude lies, the short way round the circle, within 60 units of the polynomial longitude. The figure follows
--- by computation from the lists of terms and the sine's promise: the law gives 50 units for the first sum and 1 for Δψ, 51 in all. (The measured worst case
--- is 20.) Another list of terms, or another table, changes the figure here and no proof.
+-- DEMAND 3, SECOND HALF: the short way round, s and the polynomial longitude of an accepted instant are at most 60 units apart. The figure follows by
+-- computation from the lists of terms and the sine's promise: the law gives 50 units for the first sum and 1 for Δψ, 51 in all. Another list of terms, or
+-- another table, changes the figure here and no proof. No bound below 20 holds: `twenty-apart` (FarthestKnown.antt) is the instant that comes as near to the
+-- bound as any known, 1976-03-31 03:54:05.235 with DUT1 0.
 -- Assumes nothing.
 use mathlib.Core.Path.{_≡_, ap, _∙_}
 use mathlib.Core.List.{List}
@@ -14,7 +15,7 @@ use Rattle.exact.specs.Division.{floorDiv, nearest}
 use Rattle.exact.proofs.Differences.{split, zs}
 use Rattle.exact.proofs.Division.{Within}
 use Rattle.exact.proofs.Turn.{short-way-le}
-use Rattle.calendar.specs.Time.{answer, accepted}
+use Rattle.calendar.specs.Time.{instantOf, accepted}
 use Rattle.calendar.specs.declared.CivilTime.{CivilTime}
 use Rattle.calendar.proofs.AcceptedRange.{accepted-millionths}
 use Rattle.sine.specs.Sine.{R}
@@ -55,6 +56,6 @@ longitude-within-promise arguments q h =
     figures)
 
 -- THE THEOREM, for every accepted instant: fields 1 to 7 that name N and q
-pub accepted-longitude-within-promise : (t : CivilTime) (n q : ℤ) → answer t ≡ accepted n q
+pub accepted-longitude-within-promise : (t : CivilTime) (n q : ℤ) → instantOf t ≡ accepted n q
     → shortWay (apparentLongitude (argumentsOf n q) q) (polynomialLongitude (argumentsOf n q) q) ≤ promise
 accepted-longitude-within-promise t n q e = longitude-within-promise (argumentsOf n q) q (accepted-millionths t n q e)

@@ -10,6 +10,7 @@ ghost use Rattle.calendar.specs.Time.{InstantRange, MillionthsRange};
 ghost use Rattle.sine.specs.Sine.{entries};
 use calendar::CivilTime;
 use calendar::Instant;
+use refusal::Refusal;
 use sine::SineTable;
 
 // In units: the mean obliquity, the nutation in longitude Δψ, the true obliquity ε, Greenwich sidereal time, the angle g of the centre
@@ -26,7 +27,7 @@ pub struct SunNumbers {
 // They, or the refusal of an instant that is not accepted.
 pub enum Answer {
     Numbers(SunNumbers),
-    Refused(i64),
+    Refused(Refusal),
 }
 
 fn of_arguments(t: &SineTable, arguments: &[i64], n: i64, q: i64) -> SunNumbers
@@ -65,8 +66,6 @@ pub fn at(t: &SineTable, fields: [i64; 16]) -> Answer
     };
     match calendar::instant_of(time) {
         Instant::Accepted(n, q) => Answer::Numbers(of_instant(t, n, q)),
-        Instant::NoDate => Answer::Refused(2),
-        Instant::NoTime => Answer::Refused(3),
-        Instant::NoDut1 => Answer::Refused(4),
+        Instant::Refused(refusal) => Answer::Refused(refusal),
     }
 }

@@ -35,7 +35,7 @@ fn answer(t: &SineTable) -> bool
                 }
             }
         }
-        Answer::Refused(refusal) => vectors::write_number(refusal),
+        Answer::Refused(refusal) => vectors::write_natural(refusal::number_of(refusal)),
     }
     vectors::write_newline();
     true

@@ -3,12 +3,13 @@
 use calendar::CivilTime;
 use calendar::Day;
 use calendar::Instant;
+use refusal::Refusal;
 
 // More lines than any run has.
 const LINES: u64 = 1_000_000;
 
-fn write_refusal(refusal: i64) {
-    vectors::write_number(refusal);
+fn write_refusal(refusal: Refusal) {
+    vectors::write_natural(refusal::number_of(refusal));
     vectors::write_newline();
 }
 
@@ -20,7 +21,7 @@ fn answer_date(numbers: [i64; 16]) {
             vectors::write_natural(d);
             vectors::write_newline();
         }
-        Day::NotADate => write_refusal(2),
+        Day::NotADate => write_refusal(Refusal::NoDate),
     }
 }
 
@@ -43,9 +44,7 @@ fn answer_instant(numbers: [i64; 16], with_arguments: bool) {
             }
             vectors::write_newline();
         }
-        Instant::NoDate => write_refusal(2),
-        Instant::NoTime => write_refusal(3),
-        Instant::NoDut1 => write_refusal(4),
+        Instant::Refused(refusal) => write_refusal(refusal),
     }
 }
 

@@ -1,4 +1,4 @@
--- `calendar::instant_of` meets its contract: each answer of a callee is one of `answer`'s tests.
+-- `calendar::instant_of` meets its contract: each answer of a callee is one of `instantOf`'s tests.
 use mathlib.Core.Path.{_≡_, sym, ap, ap₂, subst, _∙_}
 use mathlib.Core.Bool.{true}
 use Prim.Native.Nat.{_≤_}
@@ -11,7 +11,7 @@ use mir.Syntax.{w64}
 use mir.Val.{SFits}
 use Rattle.exact.proofs.Machine.{ok-fits}
 use Rattle.calendar.specs.Date.{dayCount, isDate, dayOf, DayInRange}
-use Rattle.calendar.specs.Time.{isTime, isDut1, dayMillisecond, sinceNoon, instant, millionths, clockOf, ClockInRange, accepted, answer}
+use Rattle.calendar.specs.Time.{isTime, isDut1, dayMillisecond, sinceNoon, instant, millionths, clockOf, ClockInRange, accepted, instantOf}
 use Rattle.calendar.specs.declared.CivilTime.{CivilTime}
 use Rattle.calendar.specs.declared.Day.the-variants.{Counted}
 use Rattle.calendar.specs.declared.Clock.the-variants.{Millisecond}
@@ -57,7 +57,7 @@ enum-told : tie.Need-enum-told
 enum-told c = search needs
 
 returns : tie.Need-returns
-unfolding answer
+unfolding instantOf
 returns c =
     let d = c .before .before in
     (simp (no-date (t d .year) (t d .month) (t d .day) (sym (c .enum-told .given .1) ∙ day-is d)), tt)
@@ -96,7 +96,7 @@ enum-told-2 : tie.Need-enum-told-2
 enum-told-2 c = search needs
 
 returns-2 : tie.Need-returns-2
-unfolding answer
+unfolding instantOf
 returns-2 c =
     let m = c .before .before in
     let u = t₂ m in
@@ -131,7 +131,7 @@ between-requires : tie.Need-between-requires
 between-requires c κs = search needs
 
 returns-3 : tie.Need-returns-3
-unfolding answer
+unfolding instantOf
 returns-3 c =
     let b = c .before in
     (simp (date (dated (clocked b)) .0, time b .0, sym (dut1-test b) ∙ not-true _ (c .if1 .taken)), tt)
@@ -169,7 +169,7 @@ module _ (c : tie.After-millionths) where
   q-is = (simp (toZ-ofZ, n-fits (c .before)) at (c .millionths .ensures .0)) ∙ ap millionths n-is
 
 returns-4 : tie.Need-returns-4
-unfolding answer
+unfolding instantOf
 returns-4 c =
     let b = tested c in
     simp (toZ-ofZ, n-fits (c .before), ok-fits (c .millionths .result) (c .millionths .ok), date (dated (clocked b)) .0, time b .0, dut1-in (c .before .before .before))

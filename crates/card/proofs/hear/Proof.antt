@@ -1,84 +1,89 @@
 -- `card::hear` meets its contract. Assumes nothing.
-use Prim.Native.Nat.{_<_}
-use mathlib.Core.Path.{_≡_, sym, ap, _∙_}
+use mathlib.Core.Path.{_≡_, sym, ap, ap₂, _∙_}
+use mathlib.Core.Bool.{true}
 use mir.Facts.{toZ-ofZ}
-use Rattle.card.specs.declared.Place.the-variants.{At}
+use borrow.Author.Tests.{not-true, not-false}
 use Rattle.card.specs.declared.Field.the-variants.{Heard}
-use Rattle.card.specs.Fields.{fieldCount, placeOf, put}
-use Rattle.card.specs.Calls.{answer, accepted, isTooLarge, hearingAt}
-use Rattle.card.proofs.FieldNumbers.{found, place-below}
-use Rattle.card.proofs.Hearings.{hearing-refused, hearing-accepted}
+use Rattle.card.specs.Fields.{isField, put}
+use Rattle.card.specs.Calls.{accepted, canBeHeard}
+use Rattle.card.proofs.Answers.{hearing-no-field, hearing-too-large, hearing-accepted}
 use borrow.Author.Needs.{needs}
 use Rattle.card.proofs.hear.Statement.{statement}
 use Rattle.card.proofs.hear.Tie as tie
 
-at : (c : tie.After-i) → At (c .i .given .0 .0) ≡ placeOf (c .before .before .before .args .field)
-at c =
-    let s = c .before .before .before in found (s .fits .field) (c .i .given .1) (c .before .before .place-of .ensures)
+-- the tests are the definition's
+tested : (c : tie.After-is-field) → isField (c .before .args .field) ≡ c .is-field .result
+tested c = sym (simp (toZ-ofZ (c .before .fits .field)) at (c .is-field .ensures))
 
-below : (c : tie.After-i) → c .i .given .0 .0 < fieldCount
-below c = place-below (c .before .before .before .args .field) (at c)
+tested-number : (c : tie.After-between) → canBeHeard (c .before .before .before .args .number) ≡ c .between .result
+tested-number c = sym (simp (toZ-ofZ (c .before .before .before .fits .number)) at (c .between .ensures))
 
-tested : (c : tie.After-is-too-large) → isTooLarge (c .before .before .before .before .before .args .number) ≡ c .is-too-large .result
-tested c = sym (c .is-too-large .ensures ∙ ap isTooLarge (toZ-ofZ (c .before .before .before .before .before .fits .number)))
+field-there : (c : tie.Else1) → isField (c .before .before .args .field) ≡ true
+field-there c = tested (c .before) ∙ not-false _ (c .if1 .left)
 
-place-of-requires : tie.Need-place-of-requires
-place-of-requires c κs = search needs
+is-field-requires : tie.Need-is-field-requires
+is-field-requires c κs = search needs
 
-enum-known-i : tie.Need-enum-known-i
-enum-known-i c = search needs
-
-enum-told : tie.Need-enum-told
-enum-told c = search needs
-
-answered-requires : tie.Need-answered-requires
-answered-requires c κs = search needs
+refused-requires : tie.Need-refused-requires
+refused-requires c κs = search needs
 
 returns : tie.Need-returns
 returns c =
-    let s = c .before .before .before .before in
-    let p = found (s .fits .field) (c .before .enum-told .given .1) (c .before .before .before .place-of .ensures) in
-    c .answered .ensures ∙ ap (λ q. hearingAt q (s .args .card) (s .args .number)) p
+    let t = c .before in
+    let a = t .before .before .args in
+    c .refused .ensures ∙ hearing-no-field (a .card) (a .field) (a .number) (tested (t .before) ∙ not-true _ (t .if1 .taken))
 
-is-too-large-requires : tie.Need-is-too-large-requires
-is-too-large-requires c κs = search needs
+sub-between : tie.Need-sub-between
+sub-between c = search needs
 
-answered-requires-2 : tie.Need-answered-requires-2
-answered-requires-2 c κs = search needs
+between-requires : tie.Need-between-requires
+between-requires c κs = search needs
+
+refused-requires-2 : tie.Need-refused-requires-2
+refused-requires-2 c κs = search needs
 
 returns-2 : tie.Need-returns-2
 returns-2 c =
-    let i = c .before .before .before .before in
-    let s = i .before .before .before in
-    c .answered2 .ensures ∙ hearing-refused (s .args .card) (s .args .field) (s .args .number) (at i) (tested (c .before .before) ∙ c .before .if1 .taken)
+    let t = c .before in
+    let l = t .before .before in
+    let a = l .before .before .args in
+    c .refused2 .ensures
+    ∙ hearing-too-large (a .card) (a .field) (a .number) (field-there l) (tested-number (t .before) ∙ not-true _ (t .if2 .taken))
+
+place-of-requires : tie.Need-place-of-requires
+place-of-requires c κs =
+    let l = c .before .before in simp (toZ-ofZ (l .before .before .fits .field)) (field-there l)
 
 put-requires : tie.Need-put-requires
-put-requires c κs = below (c .before .before .before)
+put-requires c κs = search needs
 
-answered-requires-3 : tie.Need-answered-requires-3
-answered-requires-3 c κs = search needs
+accepted-requires : tie.Need-accepted-requires
+accepted-requires c κs = search needs
 
 returns-3 : tie.Need-returns-3
 returns-3 c =
-    let t = c .before .before in
-    let i = t .before .before .before in
-    let s = i .before .before .before in
-    c .answered3 .ensures
-    ∙ ap (answer accepted) (c .before .put .ensures ∙ ap (λ z. put (s .args .card) (i .i .given .0 .0) (Heard z)) (toZ-ofZ (s .fits .number)))
-    ∙ hearing-accepted (s .args .card) (s .args .field) (s .args .number) (at i) (tested (t .before) ∙ t .if1 .left)
+    let p = c .before .before in
+    let t = p .before in
+    let l = t .before .before in
+    let s = l .before .before in
+    let a = s .args in
+    let place = simp (toZ-ofZ (s .fits .field)) at (p .place-of .ensures .0) in
+    c .accepted .ensures
+    ∙ ap accepted (c .before .put .ensures ∙ ap₂ (λ i z. put (a .card) i (Heard z)) place (toZ-ofZ (s .fits .number)))
+    ∙ hearing-accepted (a .card) (a .field) (a .number) (field-there l) (tested-number (t .before) ∙ not-false _ (t .if2 .left))
 
 pub hear-spec : {M : Type 1} → statement M
 hear-spec =
     tie.close
     (tie.spec
-    place-of-requires
-    enum-known-i
-    enum-told
-    answered-requires
+    is-field-requires
+    refused-requires
     returns
-    is-too-large-requires
-    answered-requires-2
+    sub-between
+    between-requires
+    refused-requires-2
     returns-2
+    place-of-requires
     put-requires
-    answered-requires-3
+    accepted-requires
     returns-3)

@@ -1,6 +1,7 @@
 -- `card::number_in` meets its contract: the number of each case fits its type, so it is the number of its bits. Assumes nothing.
-use mathlib.Core.Path.{refl}
-use Rattle.card.proofs.Readings.{held}
+use mathlib.Core.Path.{refl, sym, ap}
+use Rattle.card.specs.Fields.{numberIn}
+use Rattle.card.proofs.States.{held}
 use borrow.Author.Needs.{needs}
 use Rattle.card.proofs.number_in.Statement.{statement}
 use Rattle.card.proofs.number_in.Tie as tie
@@ -18,7 +19,7 @@ enum-known-field-3 : tie.Need-enum-known-field-3
 enum-known-field-3 c = search needs
 
 returns : tie.Need-returns
-returns c = search needs
+returns c = ap numberIn (sym (c .enum-told .given .1))
 
 returns-2 : tie.Need-returns-2
 returns-2 c = held (c .before .field .given .1) refl (search needs)

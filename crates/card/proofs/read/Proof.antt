@@ -1,116 +1,124 @@
 -- `card::read` meets its contract: it goes by what the field holds, and by whether the text fits. Assumes nothing.
-use Prim.Native.Nat.{ℕ, _<_}
-use mathlib.Core.Path.{_≡_, refl, sym, ap, _∙_}
-use lib.IntN.{ℤ}
+use Prim.Native.Nat.{_<_, _^_}
+use mathlib.Core.Path.{_≡_, sym, ap, ap₂, subst, _∙_}
+use mathlib.Core.Bool.{true, false}
+use lib.Dec.{lit<}
+use lib.IntN.{natAbs}
 use mir.Syntax.{w64}
 use mir.Facts.{toZ-ofZ}
-use mir.Val.{SFits}
-use Rattle.digits.specs.Writing.{written}
-use Rattle.card.specs.declared.Card.{Card}
-use Rattle.card.specs.declared.Held.the-variants.{Number}
-use Rattle.card.specs.declared.ReadAnswer.{ReadAnswer}
-use Rattle.card.specs.declared.Place.the-variants.{At}
-use Rattle.card.specs.Fields.{fieldCount, placeOf, fieldAt, fieldIn, put}
-use Rattle.card.specs.Calls.{accepted, numberIn, readState, readAnswer, readingNumber, readingAt, reading, bufferHolding, bufferAfter}
-use Rattle.card.proofs.FieldNumbers.{found, place-below}
-use Rattle.card.proofs.Readings.{reading-by, read-fits, read-unfit}
+use mir.Val.{toZ, ofZ}
+use borrow.Author.Tests.{not-true, not-false}
+use Rattle.exact.proofs.Machine.{ok-fits, abs-word}
+use Rattle.digits.specs.Writing.{written, bufferWith}
+use Rattle.card.specs.declared.Field.{Field}
+use Rattle.card.specs.declared.Field.the-variants.{Empty, Heard, Read, Confirmed}
+use Rattle.card.specs.Fields.{isHeld, numberIn, isField, placeOf, fieldAt, fieldOf, put}
+use Rattle.card.specs.Calls.{readState, writtenOut}
+use Rattle.card.proofs.FieldNumbers.{no-field, field-found}
+use Rattle.card.proofs.Answers.{reading-no-field, reading-empty, reading-no-room, reading-written}
+use Rattle.card.proofs.Clash.{clash}
 use borrow.Author.Needs.{needs}
 use Rattle.card.proofs.read.Statement.{statement}
 use Rattle.card.proofs.read.Tie as tie
 
-at : (c : tie.After-i) → At (c .i .given .0 .0) ≡ placeOf (c .before .before .before .before .args .field)
-at c =
-    let s = c .before .before .before .before in found (s .fits .field) (c .i .given .1) (c .before .before .place-of .ensures)
+-- an empty field holds no number
+unheld-small : (v : Field) → isHeld v ≡ false → natAbs (numberIn v) < 2 ^ 64
+unheld-small Empty e = lit< tt
+unheld-small (Heard z) e = clash (cc)
+unheld-small (Read z) e = clash (cc)
+unheld-small (Confirmed z) e = clash (cc)
 
-below : (c : tie.After-i) → c .i .given .0 .0 < fieldCount
-below c = place-below (c .before .before .before .before .args .field) (at c)
+-- the test is the definition's
+tested : (c : tie.After-is-field) → isField (c .before .before .args .field) ≡ c .is-field .result
+tested c = sym (simp (toZ-ofZ (c .before .before .fits .field)) at (c .is-field .ensures))
 
--- what the field at the place holds
-holds : (c : tie.After-number-in) → c .number-in .result
-    ≡ numberIn (fieldAt (c .before .before .before .before .before .before .before .args .card) (c .before .before .before .i .given .0 .0))
-holds c = c .number-in .ensures ∙ ap numberIn (c .before .field-at .ensures)
+field-there : (c : tie.Else1) → isField (c .before .before .before .args .field) ≡ true
+field-there c = tested (c .before) ∙ not-false _ (c .if1 .left)
 
--- and that fits its type
-number-fits : (c : tie.After-known-told2) → SFits w64 (c .before .number .given .0 .0)
-number-fits c = search needs
+-- the place is the field's, and so is what stands there
+module _ (c : tie.After-place-of) where
+  abbrev start : tie.Start
+  start = c .before .before .before .before
 
--- where the text was asked for: the place, the card and the number
-abbrev reached : tie.After-write-at → tie.After-i
-reached c = c .before .before .before .before .before .before .before .before
+  place-is : c .place-of .result ≡ placeOf (start .args .field)
+  place-is = simp (toZ-ofZ (start .fits .field)) at (c .place-of .ensures .0)
 
-abbrev index : tie.After-write-at → ℕ
-index c = reached c .i .given .0 .0
+state-is : (c : tie.After-field-at) → c .field-at .result ≡ fieldOf (start (c .before) .args .card) (start (c .before) .args .field)
+state-is c =
+    let a = start (c .before) .args in
+    c .field-at .ensures ∙ ap (fieldAt (a .card)) (place-is (c .before)) ∙ field-found (a .field) (field-there (c .before .before)) (a .card)
 
-abbrev start : tie.After-write-at → tie.Start
-start c = reached c .before .before .before .before
+-- whether it holds a number, and which
+module _ (c : tie.After-is-held) where
+  abbrev placed : tie.After-place-of
+  placed = c .before .before
 
-abbrev card : tie.After-write-at → Card
-card c = start c .args .card
+  held-as : isHeld (fieldOf (start placed .args .card) (start placed .args .field)) ≡ c .is-held .result
+  held-as = ap isHeld (sym (state-is (c .before))) ∙ sym (c .is-held .ensures)
 
-abbrev number : tie.After-write-at → ℤ
-number c = c .before .before .before .number .given .0 .0
+module _ (c : tie.After-write-at) where
+  abbrev asked : tie.After-is-held
+  asked = c .before .before .before .before
 
-written-as : (c : tie.After-write-at) → c .write-at .result ≡ written (start c .args .buf .now) (start c .args .place) (number c)
-written-as c = rw (toZ-ofZ (number-fits (c .before .before))) at (c .write-at .ensures .0)
+  abbrev begin : tie.Start
+  begin = start (placed asked)
 
--- reading then goes by that number
-by-text : (c : tie.After-write-at) {r : ReadAnswer}
-    → r ≡ readingNumber (Number (number c)) (card c) (index c) (start c .args .buf .now) (start c .args .place)
-    → (r ≡ reading (card c) (start c .args .field) (start c .args .buf .now) (start c .args .place))
-    × (c .write-at .last .0 ≡ bufferAfter (card c) (start c .args .field) (start c .args .buf .now) (start c .args .place))
-by-text c e =
-    let n = c .before .before .before in
-    let a = start c .args in
-    reading-by (card c) (index c) (a .buf .now) (a .place) (a .field) (at (reached c))
-    (sym (n .number .given .1) ∙ holds (n .before .before))
-    e
-    (rw (toZ-ofZ (number-fits (c .before .before))) at (c .write-at .ensures .1))
+  number-is : c .before .number-in .result ≡ numberIn (fieldOf (begin .args .card) (begin .args .field))
+  number-is = c .before .number-in .ensures ∙ ap numberIn (state-is (asked .before))
 
-place-of-requires : tie.Need-place-of-requires
-place-of-requires c κs = search needs
+  holds : isHeld (fieldOf (begin .args .card) (begin .args .field)) ≡ true
+  holds = held-as asked ∙ not-false _ (c .before .before .before .if2 .left)
 
-enum-known-i : tie.Need-enum-known-i
-enum-known-i c = search needs
+  number-held : toZ w64 (ofZ w64 (c .before .number-in .result)) ≡ numberIn (fieldOf (begin .args .card) (begin .args .field))
+  number-held = toZ-ofZ (ok-fits (c .before .number-in .result) (c .before .number-in .ok)) ∙ number-is
 
-enum-told : tie.Need-enum-told
-enum-told c = search needs
+  number-small : natAbs (numberIn (fieldOf (begin .args .card) (begin .args .field))) < 2 ^ 64
+  number-small = subst (λ z. natAbs z < 2 ^ 64) number-is (abs-word (c .before .number-in .result) (ok-fits (c .before .number-in .result) (c .before .number-in .ok)) .fits)
 
-read-answered-requires : tie.Need-read-answered-requires
-read-answered-requires c κs = search needs
+  written-as : c .write-at .result ≡ written (begin .args .buf .now) (begin .args .place) (numberIn (fieldOf (begin .args .card) (begin .args .field)))
+  written-as = c .write-at .ensures .0 ∙ ap (written (begin .args .buf .now) (begin .args .place)) number-held
+
+  buffer-as : c .write-at .last .0 ≡ bufferWith (begin .args .buf .now) (begin .args .place) (numberIn (fieldOf (begin .args .card) (begin .args .field)))
+  buffer-as = c .write-at .ensures .1 ∙ ap (bufferWith (begin .args .buf .now) (begin .args .place)) number-held
+
+is-field-requires : tie.Need-is-field-requires
+is-field-requires c κs = search needs
+
+not-written-requires : tie.Need-not-written-requires
+not-written-requires c κs = search needs
 
 returns : tie.Need-returns
 returns c =
-    let s = c .before .before .before .before .before in
-    let p = found (s .fits .field) (c .before .enum-told .given .1) (c .before .before .before .place-of .ensures) in
-    let a = s .args in (
-      c .read-answered .ensures ∙ ap (λ q. readingAt q (a .card) (a .buf .now) (a .place)) p,
-      ap (λ q. bufferHolding (numberIn (fieldIn q (a .card))) (a .buf .now) (a .place)) p,
-    )
+    let t = c .before in
+    let a = t .before .before .before .args in
+    let n = tested (t .before) ∙ not-true _ (t .if1 .taken) in
+    let r = reading-no-field (a .card) (a .field) (a .buf .now) (a .place) n in
+    (c .not-written .ensures ∙ r .0, (r .1, unheld-small (fieldOf (a .card) (a .field)) (ap isHeld (sym (no-field (a .field) n (a .card))))))
+
+place-of-requires : tie.Need-place-of-requires
+place-of-requires c κs = simp (toZ-ofZ (c .before .before .before .fits .field)) (field-there c)
 
 field-at-requires : tie.Need-field-at-requires
-field-at-requires c κs = below (c .before)
+field-at-requires c κs = search needs
 
-number-in-requires : tie.Need-number-in-requires
-number-in-requires c κs = search needs
+is-held-requires : tie.Need-is-held-requires
+is-held-requires c κs = search needs
 
-enum-known-number : tie.Need-enum-known-number
-enum-known-number c = search needs
-
-enum-told-2 : tie.Need-enum-told-2
-enum-told-2 c = search needs
-
-read-answered-requires-2 : tie.Need-read-answered-requires-2
-read-answered-requires-2 c κs = search needs
+not-written-requires-2 : tie.Need-not-written-requires-2
+not-written-requires-2 c κs = search needs
 
 returns-2 : tie.Need-returns-2
 returns-2 c =
-    let n = c .before .before .before in
-    let i = n .before .before .before in
-    let a = i .before .before .before .before .args in
-    reading-by (a .card) _ (a .buf .now) (a .place) (a .field) (at i)
-    (sym (c .before .enum-told2 .given .1) ∙ holds n)
-    (c .read-answered2 .ensures)
-    refl
+    let t = c .before in
+    let h = t .before in
+    let p = placed h in
+    let a = start p .args in
+    let n = held-as h ∙ not-true _ (t .if2 .taken) in
+    let r = reading-empty (a .card) (a .field) (a .buf .now) (a .place) (field-there (p .before)) n in
+    (c .not-written2 .ensures ∙ r .0, (r .1, unheld-small (fieldOf (a .card) (a .field)) n))
+
+number-in-requires : tie.Need-number-in-requires
+number-in-requires c κs = search needs
 
 write-at-requires : tie.Need-write-at-requires
 write-at-requires c κs = search needs
@@ -118,30 +126,32 @@ write-at-requires c κs = search needs
 enum-known-length : tie.Need-enum-known-length
 enum-known-length c = search needs
 
-enum-told-3 : tie.Need-enum-told-3
-enum-told-3 c = search needs
+enum-told : tie.Need-enum-told
+enum-told c = search needs
 
-read-answered-requires-3 : tie.Need-read-answered-requires-3
-read-answered-requires-3 c κs = search needs
+not-written-requires-3 : tie.Need-not-written-requires-3
+not-written-requires-3 c κs = search needs
 
 same-length : tie.Need-same-length
 same-length c = search needs
 
 returns-3 : tie.Need-returns-3
 returns-3 c =
-    let k = c .before .before .before .before .before in
-    by-text k
-    (c .read-answered3 .ensures
-    ∙ read-unfit (card k) (index k) (start k .args .buf .now) _ (number k) (sym (c .before .enum-told3 .given .1) ∙ written-as k))
+    let o = c .before in
+    let w = o .before .before .before .before in
+    let a = begin w .args in
+    let r = reading-no-room (a .card) (a .field) (a .buf .now) (a .place) (field-there (placed (asked w) .before)) (holds w) _
+    (sym (o .enum-told .given .1) ∙ written-as w) (buffer-as w) in
+    (c .not-written3 .ensures ∙ r .0, (r .1, number-small w))
 
 read-state-requires : tie.Need-read-state-requires
 read-state-requires c κs = search needs
 
 put-requires : tie.Need-put-requires
-put-requires c κs = below (reached (c .before .before .before .before .before .before))
+put-requires c κs = search needs
 
-read-answered-requires-4 : tie.Need-read-answered-requires-4
-read-answered-requires-4 c κs = search needs
+written-out-requires : tie.Need-written-out-requires
+written-out-requires c κs = search needs
 
 same-length-2 : tie.Need-same-length-2
 same-length-2 c = search needs
@@ -149,37 +159,41 @@ same-length-2 c = search needs
 returns-4 : tie.Need-returns-4
 returns-4 c =
     let p = c .before in
-    let l = p .before .before .before in
-    let k = l .before .before .before .before in
-    let f = k .before .before .before .before .before .before in
-    by-text k
-    (c .read-answered4 .ensures
-    ∙ ap (readAnswer accepted _) (p .put .ensures ∙ ap (put (card k) (index k)) (p .before .read-state .ensures ∙ ap readState (f .field-at .ensures)))
-    ∙ read-fits (card k) (index k) (start k .args .buf .now) _ (number k) (l .length .given .0 .0) (sym (l .length .given .1) ∙ written-as k))
+    let n = p .before .before .before in
+    let w = n .before .before .before .before in
+    let a = begin w .args in
+    let h = asked w in
+    let r = reading-written (a .card) (a .field) (a .buf .now) (a .place) (field-there (placed h .before)) (holds w)
+    (n .length .given .0 .0) _ (sym (n .length .given .1) ∙ written-as w) (buffer-as w) in (
+      c .written-out .ensures
+          ∙ ap (writtenOut _)
+          (p .put .ensures
+          ∙ ap₂ (put (a .card)) (place-is (placed h)) (p .before .read-state .ensures ∙ ap readState (state-is (h .before))))
+          ∙ r .0,
+      (r .1, number-small w),
+    )
 
 pub read-spec : {M : Type 1} → statement M
 read-spec =
     tie.close
     (tie.spec
-    place-of-requires
-    enum-known-i
-    enum-told
-    read-answered-requires
+    is-field-requires
+    not-written-requires
     returns
+    place-of-requires
     field-at-requires
-    number-in-requires
-    enum-known-number
-    enum-told-2
-    read-answered-requires-2
+    is-held-requires
+    not-written-requires-2
     returns-2
+    number-in-requires
     write-at-requires
     enum-known-length
-    enum-told-3
-    read-answered-requires-3
+    enum-told
+    not-written-requires-3
     same-length
     returns-3
     read-state-requires
     put-requires
-    read-answered-requires-4
+    written-out-requires
     same-length-2
     returns-4)

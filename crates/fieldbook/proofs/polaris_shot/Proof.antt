@@ -6,6 +6,7 @@ use borrow.Author.Needs.{needs}
 use mir.Facts.{toZ-ofZ}
 use Rattle.exact.specs.Angle.{turn}
 use Rattle.sun.specs.Longitude.{centreLongitude}
+use Rattle.fieldbook.specs.Shot.{valuesOf}
 use Rattle.fieldbook.proofs.Skies.{q-le, count, n-fits, q-fits, obliquity-fits, nutation-fits, epsilon-fits, polaris-is}
 use Rattle.fieldbook.proofs.polaris_shot.Statement.{statement}
 use Rattle.fieldbook.proofs.polaris_shot.Tie as tie
@@ -56,8 +57,8 @@ returns c =
     let h = s .pre .1 in
     let sight = simp (toZ-ofZ, s .fits .latitude, s .fits .longitude) at (v .sight .ensures .0) in
     let place = simp (toZ-ofZ, n-fits k h, obliquity-fits k h, nutation-fits k h, epsilon-fits k h) at (d .direction .ensures .0) in (
-      polaris-is k h (s .args .latitude) (s .args .longitude) (d .direction .result) _ (c .answered .result) sight (g .centre-longitude .result)
-          (g-is g .0) place (c .answered .ensures .0),
+      polaris-is k h (s .args .latitude) (s .args .longitude) (d .direction .result) (valuesOf (c .answered .result)) (g .centre-longitude .result)
+          (g-is g .0) place (c .answered .ensures .0 _ sight),
       c .answered .ensures .1,
     )
 

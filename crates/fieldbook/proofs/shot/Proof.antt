@@ -1,4 +1,4 @@
--- `fieldbook::shot` meets its contract: the calendar's answer decides, by the law of `Instants`.
+-- `fieldbook::shot` meets its contract: the calendar's answer decides, by the laws of `Decided`.
 use mathlib.Core.Path.{_≡_, refl, sym, ap, subst, _∙_}
 use Prim.Native.Nat.{_^_}
 use native.Mathlib.Omega.{arith}
@@ -8,12 +8,12 @@ use mir.Facts.{toZ-ofZ}
 use mir.Syntax.{w64}
 use mir.Val.{SFits}
 use Rattle.exact.proofs.Machine.{fits-lt}
-use Rattle.calendar.specs.Time.{meaning, answer, InRange, InstantRange, MillionthsRange}
+use Rattle.calendar.specs.Time.{instantValues, instantOf, InRange, InstantRange, MillionthsRange}
 use Rattle.calendar.specs.declared.Instant.{Instant}
 use Rattle.arguments.proofs.Moments.{moment}
 use Rattle.card.specs.declared.Numbers.{Numbers}
-use Rattle.fieldbook.specs.Shot.{timeOf, shotOf}
-use Rattle.fieldbook.proofs.Instants.{byAnswer, shot-by-answer}
+use Rattle.fieldbook.specs.Shot.{timeOf}
+use Rattle.fieldbook.proofs.Decided.{refused-in-turn, refused-instant, accepted-instant}
 use Rattle.fieldbook.proofs.shot.Statement.{statement}
 use Rattle.fieldbook.proofs.shot.Tie as tie
 
@@ -42,14 +42,14 @@ module _ (c : tie.After-instant-of) where
   abbrev x : Numbers
   x = c .before .before .args .numbers
 
-  answer-is : meaning (c .instant-of .result) ≡ answer (timeOf x)
+  answer-is : instantValues (c .instant-of .result) ≡ instantOf (timeOf x)
   answer-is =
       let f = fit (c .before) in
       simp (toZ-ofZ, f .0, f .1, f .2, f .3, f .4, f .5, f .6) at (c .instant-of .ensures .0)
 
-  -- where the answer is i, the shot goes by i
-  shot-is : (i : Instant) → c .instant-of .result ≡ i → byAnswer x (meaning i) ≡ shotOf x
-  shot-is i e = ap (byAnswer x) (ap meaning (sym e) ∙ answer-is) ∙ shot-by-answer x
+  -- where the answer is i
+  answer-by : (i : Instant) → c .instant-of .result ≡ i → instantValues i ≡ instantOf (timeOf x)
+  answer-by i e = ap instantValues (sym e) ∙ answer-is
 
 instant-of-requires : tie.Need-instant-of-requires
 instant-of-requires c κs = search needs
@@ -76,14 +76,8 @@ module _ (c : tie.After-n) where
 shot-at-requires : tie.Need-shot-at-requires
 shot-at-requires c κs = let d = c .before .before .before .before in simp (toZ-ofZ, held-in d .0, held-in d .1) (ranges d .0, ranges d .1)
 
-enum-told : tie.Need-enum-told
-enum-told c = search needs
-
-enum-told-2 : tie.Need-enum-told-2
-enum-told-2 c = search needs
-
-enum-told-3 : tie.Need-enum-told-3
-enum-told-3 c = search needs
+enum-known-refusal : tie.Need-enum-known-refusal
+enum-known-refusal c = search needs
 
 returns : tie.Need-returns
 returns c =
@@ -91,18 +85,15 @@ returns c =
     let i = d .before .before in
     let f = fit (i .before) in
     let e = simp (toZ-ofZ, held-in d .0, held-in d .1, f .7, f .8, f .9) at (c .shot-at .ensures .0) in
-    (e ∙ shot-is i _ (d .n .given .1), c .shot-at .ensures .1)
+    (e ∙ accepted-instant (x i) _ _ (answer-by i _ (d .n .given .1)), c .shot-at .ensures .1)
 
 returns-2 : tie.Need-returns-2
-returns-2 c = (shot-is (c .before .before) _ (c .enum-told .given .1), tt)
-
-returns-3 : tie.Need-returns-3
-returns-3 c = (shot-is (c .before .before) _ (c .enum-told2 .given .1), tt)
-
-returns-4 : tie.Need-returns-4
-returns-4 c = (shot-is (c .before .before) _ (c .enum-told3 .given .1), tt)
+returns-2 c =
+    let r = c .before .refusal .given in
+    let i = c .before .before .before in
+    (refused-instant (x i) (r .0 .0) (answer-by i _ (r .1)), refused-in-turn 0)
 
 pub shot-spec : {M : Type 1} → statement M
 shot-spec =
     tie.close
-    (tie.spec instant-of-requires enum-known-n shot-at-requires enum-told enum-told-2 enum-told-3 returns returns-2 returns-3 returns-4)
+    (tie.spec instant-of-requires enum-known-n shot-at-requires enum-known-refusal returns returns-2)

@@ -3,6 +3,7 @@ use native.Mathlib.Omega.{arith}
 use borrow.Author.Needs.{needs}
 use mir.Facts.{toZ-ofZ}
 use Rattle.sun.specs.Longitude.{IsLongitude}
+use Rattle.fieldbook.specs.Shot.{valuesOf}
 use Rattle.fieldbook.proofs.Skies.{q-le, count, q-fits, nutation-fits, epsilon-fits, sun-is}
 use Rattle.fieldbook.proofs.sun_shot.Statement.{statement}
 use Rattle.fieldbook.proofs.sun_shot.Tie as tie
@@ -51,8 +52,8 @@ returns c =
     let h = s .pre .1 in
     let sight = simp (toZ-ofZ, s .fits .latitude, s .fits .longitude) at (v .sight .ensures .0) in
     let vector = simp (toZ-ofZ, epsilon-fits k h) at (d .from-ecliptic .ensures .0) in (
-      sun-is k h (s .args .latitude) (s .args .longitude) (d .from-ecliptic .result) _ (c .answered .result) sight (l .apparent-longitude .result)
-          (longitude-is l .value) vector (c .answered .ensures .0),
+      sun-is k h (s .args .latitude) (s .args .longitude) (d .from-ecliptic .result) (valuesOf (c .answered .result)) (l .apparent-longitude .result)
+          (longitude-is l .value) vector (c .answered .ensures .0 _ sight),
       c .answered .ensures .1,
     )
 

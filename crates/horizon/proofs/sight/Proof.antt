@@ -9,7 +9,7 @@ use mir.Val.{SFits}
 use Rattle.exact.proofs.Machine.{fits-le}
 use Rattle.rotation.specs.Length.{Bounded, componentMost}
 use Rattle.rotation.proofs.Sizes.{components-le}
-use Rattle.horizon.specs.Horizon.{at, sighting}
+use Rattle.horizon.specs.Horizon.{at, viewFrom}
 use Rattle.horizon.proofs.sight.Statement.{statement}
 use Rattle.horizon.proofs.sight.Tie as tie
 
@@ -50,7 +50,7 @@ sight-of-requires c κs =
     simp (toZ-ofZ, m-fits d 0, h-fits d 0, h-fits d 1, h-fits d 2) (d .before .before .pre .0, m-le d 0, h-le d 0, h-le d 1, h-le d 2)
 
 returns : tie.Need-returns
-unfolding sighting
+unfolding viewFrom
 returns c =
     let d = c .before .before .before .before .before in
     let s = d .before .before in

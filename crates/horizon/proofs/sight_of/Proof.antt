@@ -1,4 +1,4 @@
--- `horizon::sight_of` meets its contract: each test is one of `sighted`, and each call gives one of the angles.
+-- `horizon::sight_of` meets its contract: each test is one of `sightOf`, and each call gives one of the angles.
 use mathlib.Core.Path.{_≡_, refl, ap, _∙_}
 use mathlib.Core.Bool.{Bool, true, false}
 use Prim.Native.Nat.{ℕ, _*_, _^_, _≤_}
@@ -15,7 +15,7 @@ use mir.Val.{toZ}
 use Rattle.exact.specs.Largest.{root}
 use Rattle.sine.specs.Angle.{angle}
 use Rattle.rotation.proofs.Signed.{negated, as-signed}
-use Rattle.horizon.specs.Horizon.{horizontalSquare, squareMost, seen, sighted}
+use Rattle.horizon.specs.Horizon.{horizontalSquare, squareMost, seen, sightOf}
 use Rattle.horizon.proofs.sight_of.Statement.{statement}
 use Rattle.horizon.proofs.sight_of.Tie as tie
 
@@ -29,7 +29,7 @@ root-le r x h k = by (leb r (2 ^ 34)) refl
 
 -- ---- the two tests
 returns : tie.Need-returns
-unfolding sighted
+unfolding sightOf
 returns c = let e : ltZ (c .before .args .up) (pos 0) ≡ true = simp (toZ-ofZ, c .before .fits .up) at (c .if1 .taken) in (rw e, tt)
 
 horizontal-square-requires : tie.Need-horizontal-square-requires
@@ -46,7 +46,7 @@ module _ (c : tie.After-horizontal-square) where
   square-is = simp (toZ-ofZ, start .fits .north, start .fits .east) at (c .horizontal-square .ensures .0)
 
 returns-2 : tie.Need-returns-2
-unfolding sighted
+unfolding sightOf
 returns-2 c =
     let d = c .before in
     let e = lt-ltb (horizontalSquare (start d .args .north) (start d .args .east)) (10 ^ 14) (rw (square-is d) at (c .if2 .taken)) in
@@ -104,7 +104,7 @@ hour-is c =
     (simp (toZ-ofZ, s .fits .x, s .fits .east, n .0) at (c .angle3 .ensures .0)) ∙ ap (angle (s .args .x)) (n .1)
 
 returns-3 : tie.Need-returns-3
-unfolding sighted seen
+unfolding sightOf seen
 returns-3 c =
     let r = c .before .before .before in
     let d = squared r in

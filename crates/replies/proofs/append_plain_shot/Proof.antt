@@ -1,6 +1,7 @@
 -- `replies::append_plain_shot` meets its contract. Assumes nothing.
 use native.Mathlib.Omega.{arith}
 use Rattle.lines.proofs.Appending.{append-both}
+use Rattle.replies.proofs.Refused.{not-zero}
 use borrow.Author.Needs.{needs}
 use Rattle.replies.proofs.append_plain_shot.Statement.{statement}
 use Rattle.replies.proofs.append_plain_shot.Tie as tie
@@ -17,9 +18,6 @@ append-further-requires c κs = search needs
 enum-known-shot-2 : tie.Need-enum-known-shot-2
 enum-known-shot-2 c = search needs
 
-refusal-number-requires : tie.Need-refusal-number-requires
-refusal-number-requires c κs = search needs
-
 append-refusal-requires : tie.Need-append-refusal-requires
 append-refusal-requires c κs = search needs
 
@@ -30,18 +28,16 @@ returns : tie.Need-returns
 returns c =
     let f = c .before .before .append-further in
     let d = c .before .before .before .before .before .before in
-    let k = d .before .before .before in
-    rw (k .shot .given .1) (append-both (d .append-directions .ensures .0) (f .ensures .0), omega (arith, d .append-directions .ensures .1, f .ensures .1))
+    rw (d .before .before .before .shot .given .1)
+    (append-both (d .append-directions .ensures .0) (f .ensures .0), omega (arith, d .append-directions .ensures .1, f .ensures .1))
 
 same-length-2 : tie.Need-same-length-2
 same-length-2 c = search needs
 
 returns-2 : tie.Need-returns-2
 returns-2 c =
-    let a = c .before .before .append-refusal in
-    let n = c .before .before .before in
-    let k = n .before .before .before in
-    rw (k .shot2 .given .1, ← (n .refusal-number .ensures .0)) (a .ensures)
+    let s = c .before .before .before .before .before .shot2 .given in
+    rw (s .1, not-zero (s .0 .0)) (c .before .before .append-refusal .ensures)
 
 pub append-plain-shot-spec : {M : Type 1} → statement M
 append-plain-shot-spec =
@@ -51,7 +47,6 @@ append-plain-shot-spec =
     append-directions-requires
     append-further-requires
     enum-known-shot-2
-    refusal-number-requires
     append-refusal-requires
     same-length
     returns

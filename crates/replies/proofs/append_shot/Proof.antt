@@ -1,5 +1,6 @@
 -- `replies::append_shot` meets its contract. Assumes nothing.
 use native.Mathlib.Omega.{arith}
+use Rattle.replies.proofs.Refused.{not-zero}
 use borrow.Author.Needs.{needs}
 use Rattle.replies.proofs.append_shot.Statement.{statement}
 use Rattle.replies.proofs.append_shot.Tie as tie
@@ -13,9 +14,6 @@ append-directions-requires c κs = search needs
 enum-known-shot-2 : tie.Need-enum-known-shot-2
 enum-known-shot-2 c = search needs
 
-refusal-number-requires : tie.Need-refusal-number-requires
-refusal-number-requires c κs = search needs
-
 append-refusal-requires : tie.Need-append-refusal-requires
 append-refusal-requires c κs = search needs
 
@@ -25,18 +23,15 @@ same-length c = search needs
 returns : tie.Need-returns
 returns c =
     let a = c .before .before .append-directions in
-    let k = c .before .before .before .before .before in
-    rw (k .shot .given .1) (a .ensures .0, omega (arith, a .ensures .1))
+    rw (c .before .before .before .before .before .shot .given .1) (a .ensures .0, omega (arith, a .ensures .1))
 
 same-length-2 : tie.Need-same-length-2
 same-length-2 c = search needs
 
 returns-2 : tie.Need-returns-2
 returns-2 c =
-    let a = c .before .before .append-refusal in
-    let n = c .before .before .before in
-    let k = n .before .before .before in
-    rw (k .shot2 .given .1, ← (n .refusal-number .ensures .0)) (a .ensures)
+    let s = c .before .before .before .before .before .shot2 .given in
+    rw (s .1, not-zero (s .0 .0)) (c .before .before .append-refusal .ensures)
 
 pub append-shot-spec : {M : Type 1} → statement M
 append-shot-spec =
@@ -45,7 +40,6 @@ append-shot-spec =
     enum-known-shot
     append-directions-requires
     enum-known-shot-2
-    refusal-number-requires
     append-refusal-requires
     same-length
     returns

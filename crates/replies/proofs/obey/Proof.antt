@@ -1,5 +1,5 @@
 -- `replies::obey` meets its contract. Assumes nothing.
-use mathlib.Core.Path.{_≡_, refl, sym, ap, _∙_}
+use mathlib.Core.Path.{refl}
 use mir.Facts.{toZ-ofZ}
 use mir.Syntax.{w64}
 use mir.Val.{SFits}
@@ -13,8 +13,8 @@ enum-known-command c = search needs
 hear-requires : tie.Need-hear-requires
 hear-requires c κs = search needs
 
-append-outcome-requires : tie.Need-append-outcome-requires
-append-outcome-requires c κs = search needs
+append-answer-requires : tie.Need-append-answer-requires
+append-answer-requires c κs = search needs
 
 enum-known-command-2 : tie.Need-enum-known-command-2
 enum-known-command-2 c = search needs
@@ -28,8 +28,8 @@ enum-known-command-3 c = search needs
 confirm-requires : tie.Need-confirm-requires
 confirm-requires c κs = search needs
 
-append-outcome-requires-2 : tie.Need-append-outcome-requires-2
-append-outcome-requires-2 c κs = search needs
+append-answer-requires-2 : tie.Need-append-answer-requires-2
+append-answer-requires-2 c κs = search needs
 
 enum-told : tie.Need-enum-told
 enum-told c = search needs
@@ -52,50 +52,48 @@ append-plain-shot-requires c κs = search needs
 enum-told-2 : tie.Need-enum-told-2
 enum-told-2 c = search needs
 
-append-outcome-requires-3 : tie.Need-append-outcome-requires-3
-append-outcome-requires-3 c κs = search needs
+append-refusal-requires : tie.Need-append-refusal-requires
+append-refusal-requires c κs = search needs
 
 same-length : tie.Need-same-length
 same-length c = search needs
 
 returns : tie.Need-returns
 returns c =
-    let o = c .before .before .append-outcome in
-    let h = c .before .before .before .before .before in
-    let k = h .before .before in
-    let x : SFits w64 (k .command .given .0 .0) = search needs in
-    let y : SFits w64 (k .command .given .0 .1 .0) = search needs in
+    let h = c .before .before .before in
+    let k = h .before .before .before .command .given in
+    let x : SFits w64 (k .0 .0) = search needs in
+    let y : SFits w64 (k .0 .1 .0) = search needs in
     let e = rw (toZ-ofZ x, toZ-ofZ y) at (h .hear .ensures) in
-    rw (k .command .given .1, ← e) (refl, o .ensures)
+    rw (k .1, ← e) (c .before .before .append-answer .ensures)
 
 same-length-2 : tie.Need-same-length-2
 same-length-2 c = search needs
 
 returns-2 : tie.Need-returns-2
 returns-2 c =
-    let k = c .before .before .before .before .before in
-    let x : SFits w64 (k .command2 .given .0 .0) = search needs in
-    rw (k .command2 .given .1) (rw (toZ-ofZ x) at (c .before .before .read-out .ensures))
+    let k = c .before .before .before .before .before .command2 .given in
+    let x : SFits w64 (k .0 .0) = search needs in
+    rw (k .1) (rw (toZ-ofZ x) at (c .before .before .read-out .ensures))
 
 same-length-3 : tie.Need-same-length-3
 same-length-3 c = search needs
 
 returns-3 : tie.Need-returns-3
 returns-3 c =
-    let o = c .before .before .append-outcome2 in
-    let h = c .before .before .before .before .before in
-    let k = h .before .before in
-    let x : SFits w64 (k .command3 .given .0 .0) = search needs in
+    let h = c .before .before .before in
+    let k = h .before .before .before .command3 .given in
+    let x : SFits w64 (k .0 .0) = search needs in
     let e = rw (toZ-ofZ x) at (h .confirm .ensures) in
-    rw (k .command3 .given .1, ← e) (refl, o .ensures)
+    rw (k .1, ← e) (c .before .before .append-answer2 .ensures)
 
 same-length-4 : tie.Need-same-length-4
 same-length-4 c = search needs
 
 returns-4 : tie.Need-returns-4
 returns-4 c =
-    let s = c .before .before .before in
-    rw (s .before .before .enum-told .given .1, ← (s .shot-from-card .ensures .0)) (refl, c .before .before .append-shot .ensures)
+    let s = c .before .before .before .before .before in
+    rw (s .before .enum-told .given .1, ← (s .shot-from-card .ensures .0)) (s .shot-from-card .ensures .1, c .before .before .append-shot .ensures)
 
 same-length-5 : tie.Need-same-length-5
 same-length-5 c = search needs
@@ -109,7 +107,7 @@ same-length-6 : tie.Need-same-length-6
 same-length-6 c = search needs
 
 returns-6 : tie.Need-returns-6
-returns-6 c = rw (c .before .before .before .before .enum-told2 .given .1) (refl, c .before .before .append-outcome3 .ensures)
+returns-6 c = rw (c .before .before .before .before .enum-told2 .given .1) (refl, c .before .before .append-refusal .ensures)
 
 pub obey-spec : {M : Type 1} → statement M
 obey-spec =
@@ -117,12 +115,12 @@ obey-spec =
     (tie.spec
     enum-known-command
     hear-requires
-    append-outcome-requires
+    append-answer-requires
     enum-known-command-2
     read-out-requires
     enum-known-command-3
     confirm-requires
-    append-outcome-requires-2
+    append-answer-requires-2
     enum-told
     shot-from-card-requires
     append-shot-requires
@@ -130,7 +128,7 @@ obey-spec =
     shot-requires
     append-plain-shot-requires
     enum-told-2
-    append-outcome-requires-3
+    append-refusal-requires
     same-length
     returns
     same-length-2

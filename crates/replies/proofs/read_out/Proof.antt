@@ -1,25 +1,19 @@
--- `replies::read_out` meets its contract. Assumes nothing.
+-- `replies::read_out` meets its contract: the lent part has room, so that the reading goes by the field alone (`Reading`). Assumes nothing.
 use native.Mathlib.Omega.{arith}
-use mathlib.Core.Path.{_≡_, refl, sym, ap, _∙_}
-use Prim.Native.Nat.{_+_, _-_, _≤_}
-use lib.ListN.{take, drop}
+use mathlib.Core.Path.{_≡_, sym, ap, _∙_}
+use Prim.Native.Nat.{ℕ, _+_, _-_, _<_, _≤_, _^_}
+use lib.IntN.{natAbs}
+use lib.ListN.{length, take, drop}
+use mathlib.Core.List.{List}
 use mir.Facts.{toZ-ofZ}
-use borrow.Rule.Slice.PartMut.{putMid}
-use Rattle.lines.specs.Writing.{Appends}
-use Rattle.replies.specs.Answers.{longest, refusalText, readText}
-use Rattle.replies.proofs.Reading.{part-length, same-answer, refused, appended, appended-instead}
+use Rattle.digits.specs.Writing.{over}
+use Rattle.card.specs.Fields.{numberIn, fieldOf}
+use Rattle.card.specs.Calls.{readingValues, readValuesOf, reading, bufferAfter}
+use Rattle.replies.specs.Answers.{longest, readText, cardRead}
+use Rattle.replies.proofs.Reading.{said, not-said, part-length, appended, appended-instead}
 use borrow.Author.Needs.{needs}
 use Rattle.replies.proofs.read_out.Statement.{statement}
 use Rattle.replies.proofs.read_out.Tie as tie
-
--- what was read out
-wrote : (c : tie.Then1) → Appends (c .before .before .before .before .before .before .before .args .out .now) (c .before .before .before .before .before .before .before .args .at) (readText (c .before .before .before .before .before .before .before .args .card) (c .before .before .before .before .before .before .before .args .field)) (putMid (c .before .before .before .before .before .before .before .args .at) (c .before .before .before .before .before .before .before .args .at + longest - c .before .before .before .before .before .before .before .args .at) (c .before .before .before .before .before .before .before .args .out .now) (c .before .before .before .before .read .last .1 .1 .0)) (c .before .before .before .before .before .before .before .args .at + c .before .before .before .before .read .result .length) × (c .before .before .before .before .read .result .length ≤ longest)
-wrote c =
-    let r = c .before .before .before .before in
-    let s = r .before .before .before in
-    let z = toZ-ofZ (s .fits .field) in
-    let a = s .args in
-    appended (a .card) (a .field) (a .out .now) (r .read .last .1 .1 .0) (a .at) (r .read .result) (s .pre) (rw z at (r .read .ensures .0)) (rw z at (r .read .ensures .1)) (r .read .kept .1 .1 .0) (c .if1 .taken)
 
 add-end : tie.Need-add-end
 add-end c = search needs
@@ -36,24 +30,71 @@ part-read-end c = search needs
 read-requires : tie.Need-read-requires
 read-requires c κs = search needs
 
-add-t15 : tie.Need-add-t15
-add-t15 c = let s = c .before .before .before .before .before .before .before .before in let w = wrote (c .before) in omega (arith, s .pre, s .good .1 .1 .0 .0, w .1)
+enum-known-reading : tie.Need-enum-known-reading
+enum-known-reading c = search needs
+
+-- ---- what was read, into the part that was lent
+module _ (r : tie.After-read) where
+  abbrev start : tie.Start
+  start = r .before .before .before
+
+  abbrev part : List ℕ
+  part = take (start .args .at + longest - start .args .at) (drop (start .args .at) (start .args .out .now))
+
+  part-size : length part ≡ longest
+  part-size = part-length (start .args .at) (start .args .out .now) (start .pre)
+
+  is-read : readValuesOf (r .read .result) ≡ reading (start .args .card) (start .args .field) part 0
+  is-read = let z = toZ-ofZ (start .fits .field) in rw z at (r .read .ensures .0)
+
+  is-written : r .read .last .1 .1 .0 ≡ bufferAfter (start .args .card) (start .args .field) part 0
+  is-written = let z = toZ-ofZ (start .fits .field) in rw z at (r .read .ensures .1 .0)
+
+  small : natAbs (numberIn (fieldOf (start .args .card) (start .args .field))) < 2 ^ 64
+  small = let z = toZ-ofZ (start .fits .field) in rw z at (r .read .ensures .1 .1)
+
+-- a reading that wrote
+module _ (c : tie.After-reading) where
+  abbrev done : tie.After-read
+  done = c .before .before .before .before .before
+
+  abbrev k : ℕ
+  k = c .reading .given .0 .0
+
+  abbrev Said : Type 0
+  Said =
+      (k ≡ length (readText (start done .args .card) (start done .args .field))) × (done .read .result .card ≡ cardRead (start done .args .card) (start done .args .field))
+      × (bufferAfter (start done .args .card) (start done .args .field) (part done) 0 ≡ over (part done) 0 (readText (start done .args .card) (start done .args .field)))
+      × (k ≤ longest)
+
+  is-said : Said
+  is-said =
+      said (start done .args .card) (start done .args .field) (part done) (part-size done) (small done) k (done .read .result .card)
+      (ap (λ x. readingValues x (done .read .result .card)) (sym (c .reading .given .1)) ∙ is-read done)
+
+add-end-2 : tie.Need-add-end-2
+add-end-2 c =
+    let s = start (done (c .before)) in
+    let w = is-said (c .before) in
+    record { fits = omega (arith, s .pre, s .good .1 .1 .0 .0, w .3) }
+
+enum-known-reading-2 : tie.Need-enum-known-reading-2
+enum-known-reading-2 c = search needs
+
+append-refusal-requires : tie.Need-append-refusal-requires
+append-refusal-requires c κs = search needs
 
 same-length : tie.Need-same-length
 same-length c = search needs
 
 returns : tie.Need-returns
 returns c =
-    let r = c .before .before .before .before .before in
-    let s = r .before .before .before in
-    let z = toZ-ofZ (s .fits .field) in
-    let a = s .args in
-    let w = wrote (c .before) in
-    let e = rw z at (r .read .ensures .0) in
-    (ap (λ x. x .card) e ∙ ap (λ x. x .card) (same-answer (a .card) _ (part-length (a .at) (a .out .now) (s .pre)) (a .field)), (w .0, omega (arith, w .1)))
-
-append-refusal-requires : tie.Need-append-refusal-requires
-append-refusal-requires c κs = search needs
+    let d = done (c .before) in
+    let a = start d .args in
+    let w = is-said (c .before) in (
+      w .1,
+      (appended (a .out .now) (d .read .last .1 .1 .0) _ (a .at) (k (c .before)) (start d .pre) (w .0) (w .3) (is-written d ∙ w .2), omega (arith, w .3)),
+    )
 
 same-length-2 : tie.Need-same-length-2
 same-length-2 c = search needs
@@ -61,15 +102,13 @@ same-length-2 c = search needs
 returns-2 : tie.Need-returns-2
 returns-2 c =
     let f = c .before .before in
-    let r = f .before .before .before .before .before .before in
-    let s = r .before .before .before in
-    let z = toZ-ofZ (s .fits .field) in
-    let a = s .args in
-    let e = rw z at (r .read .ensures .0) in
-    let p = part-length (a .at) (a .out .now) (s .pre) in
-    let w = refused (a .card) _ p (a .field) (rw e at (f .before .before .if1 .left)) in (
-      ap (λ x. x .card) (e ∙ same-answer (a .card) _ p (a .field)),
-      (rw (← w, ← e) (appended-instead (a .out .now) (r .read .last .1 .1 .0) _ _ (a .at) _ (s .pre) (f .append-refusal .ensures .0)), f .append-refusal .ensures .1),
+    let r = f .before .before .before in
+    let d = r .before .before .before .before .before in
+    let a = start d .args in
+    let w = not-said (a .card) (a .field) (part d) (part-size d) (small d) (r .reading2 .given .0 .0) (d .read .result .card)
+    (ap (λ x. readingValues x (d .read .result .card)) (sym (r .reading2 .given .1)) ∙ is-read d) in (
+      w .1,
+      (rw (← (w .0)) (appended-instead (a .out .now) (d .read .last .1 .1 .0) _ _ (a .at) _ (start d .pre) (f .append-refusal .ensures .0)), f .append-refusal .ensures .1),
     )
 
 pub read-out-spec : {M : Type 1} → statement M
@@ -81,9 +120,11 @@ read-out-spec =
     part-read-start
     part-read-end
     read-requires
-    add-t15
+    enum-known-reading
+    add-end-2
+    enum-known-reading-2
+    append-refusal-requires
     same-length
     returns
-    append-refusal-requires
     same-length-2
     returns-2)

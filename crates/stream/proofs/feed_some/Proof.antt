@@ -1,28 +1,17 @@
 -- `stream::feed_some` meets its contract. Assumes nothing.
-use mathlib.Core.Path.{sym}
 use native.Mathlib.Omega.{arith}
-use lib.Seq.{length-take-le}
 use borrow.Author.Needs.{needs}
 use Rattle.stream.proofs.feed_some.Statement.{statement}
 use Rattle.stream.proofs.feed_some.Tie as tie
 
-slice-aggregate-read : tie.Need-slice-aggregate-read
-slice-aggregate-read c = search needs
-
 read-requires : tie.Need-read-requires
 read-requires c κs = search needs
-
-returns : tie.Need-returns
-returns c = search needs
-
-slice-aggregate-count : tie.Need-slice-aggregate-count
-slice-aggregate-count c = search needs
 
 count-requires : tie.Need-count-requires
 count-requires c κs = search needs
 
-array-share-prefix-input : tie.Need-array-share-prefix-input
-array-share-prefix-input c = search needs
+slice-reshare-prefix-feed : tie.Need-slice-reshare-prefix-feed
+slice-reshare-prefix-feed c = search needs
 
 slice-aggregate-feed : tie.Need-slice-aggregate-feed
 slice-aggregate-feed c = search needs
@@ -30,37 +19,28 @@ slice-aggregate-feed c = search needs
 feed-requires : tie.Need-feed-requires
 feed-requires c κs = search needs
 
-slice-reshare-prefix-write-all : tie.Need-slice-reshare-prefix-write-all
-slice-reshare-prefix-write-all c = search needs
-
-slice-aggregate-write-all : tie.Need-slice-aggregate-write-all
-slice-aggregate-write-all c =
-    let f = c .before .before .before .before in
-    sym (length-take-le (f .feed .result .end) (f .feed .last .1 .1 .1 .0) (omega (arith, f .feed .ensures .1, f .feed .kept .1 .1 .1 .0)))
-
-write-all-requires : tie.Need-write-all-requires
-write-all-requires c κs = search needs
-
 same-length : tie.Need-same-length
 same-length c = search needs
 
-returns-2 : tie.Need-returns-2
-returns-2 c = search needs
+same-length-2 : tie.Need-same-length-2
+same-length-2 c = search needs
+
+returns : tie.Need-returns
+returns c =
+    let f = c .before .before .feed in
+    let n = c .before .before .before .before .before in
+    let r = n .before .before .before .before .read in
+    (f .ensures .0, (omega (arith, n .count .ensures .0 .0, r .kept .1 .0), f .ensures .1))
 
 pub feed-some-spec : {M : Type 1} → statement M
 feed-some-spec =
     tie.close
     (tie.spec
-    slice-aggregate-read
     read-requires
-    returns
-    slice-aggregate-count
     count-requires
-    array-share-prefix-input
+    slice-reshare-prefix-feed
     slice-aggregate-feed
     feed-requires
-    slice-reshare-prefix-write-all
-    slice-aggregate-write-all
-    write-all-requires
     same-length
-    returns-2)
+    same-length-2
+    returns)

@@ -9,26 +9,26 @@ use Rattle.arguments.proofs.Moments.{moment}
 use Rattle.sun_numbers.proofs.at.Statement.{statement}
 use Rattle.sun_numbers.proofs.at.Tie as tie
 
-array-copy-out-t9 : tie.Need-array-copy-out-t9
-array-copy-out-t9 c = search needs
+array-copy-out-t10 : tie.Need-array-copy-out-t10
+array-copy-out-t10 c = search needs
 
-array-copy-out-t12 : tie.Need-array-copy-out-t12
-array-copy-out-t12 c = search needs
+array-copy-out-t13 : tie.Need-array-copy-out-t13
+array-copy-out-t13 c = search needs
 
-array-copy-out-t15 : tie.Need-array-copy-out-t15
-array-copy-out-t15 c = search needs
+array-copy-out-t16 : tie.Need-array-copy-out-t16
+array-copy-out-t16 c = search needs
 
-array-copy-out-t18 : tie.Need-array-copy-out-t18
-array-copy-out-t18 c = search needs
+array-copy-out-t19 : tie.Need-array-copy-out-t19
+array-copy-out-t19 c = search needs
 
-array-copy-out-t21 : tie.Need-array-copy-out-t21
-array-copy-out-t21 c = search needs
+array-copy-out-t22 : tie.Need-array-copy-out-t22
+array-copy-out-t22 c = search needs
 
-array-copy-out-t24 : tie.Need-array-copy-out-t24
-array-copy-out-t24 c = search needs
+array-copy-out-t25 : tie.Need-array-copy-out-t25
+array-copy-out-t25 c = search needs
 
-array-copy-out-t27 : tie.Need-array-copy-out-t27
-array-copy-out-t27 c = search needs
+array-copy-out-t28 : tie.Need-array-copy-out-t28
+array-copy-out-t28 c = search needs
 
 instant-of-requires : tie.Need-instant-of-requires
 instant-of-requires c κs = search needs
@@ -44,14 +44,8 @@ of-instant-requires c κs =
     let m = moment (n .0 .0) (n .0 .1 .0) (r .0) (r .1) in
     simp (toZ-ofZ, fits-lt (2 ^ 45) (n .0 .0) (m .instant) refl, fits-lt (2 ^ 21) (n .0 .1 .0) (m .millionths) refl) (found .before .before .before .before .before .before .before .before .pre, r .0, r .1)
 
-enum-told : tie.Need-enum-told
-enum-told c = search needs
-
-enum-told-2 : tie.Need-enum-told-2
-enum-told-2 c = search needs
-
-enum-told-3 : tie.Need-enum-told-3
-enum-told-3 c = search needs
+enum-known-refusal : tie.Need-enum-known-refusal
+enum-known-refusal c = search needs
 
 returns : tie.Need-returns
 returns c = search needs
@@ -59,30 +53,20 @@ returns c = search needs
 returns-2 : tie.Need-returns-2
 returns-2 c = search needs
 
-returns-3 : tie.Need-returns-3
-returns-3 c = search needs
-
-returns-4 : tie.Need-returns-4
-returns-4 c = search needs
-
 pub at-spec : {M : Type 1} → statement M
 at-spec =
     tie.close
     (tie.spec
-    array-copy-out-t9
-    array-copy-out-t12
-    array-copy-out-t15
-    array-copy-out-t18
-    array-copy-out-t21
-    array-copy-out-t24
-    array-copy-out-t27
+    array-copy-out-t10
+    array-copy-out-t13
+    array-copy-out-t16
+    array-copy-out-t19
+    array-copy-out-t22
+    array-copy-out-t25
+    array-copy-out-t28
     instant-of-requires
     enum-known-n
     of-instant-requires
-    enum-told
-    enum-told-2
-    enum-told-3
+    enum-known-refusal
     returns
-    returns-2
-    returns-3
-    returns-4)
+    returns-2)

@@ -9,26 +9,26 @@ use borrow.Author.Needs.{needs}
 use Rattle.time_vectors.proofs.answer_instant.Statement.{statement}
 use Rattle.time_vectors.proofs.answer_instant.Tie as tie
 
-array-copy-out-t9 : tie.Need-array-copy-out-t9
-array-copy-out-t9 c = search needs
+array-copy-out-t10 : tie.Need-array-copy-out-t10
+array-copy-out-t10 c = search needs
 
-array-copy-out-t12 : tie.Need-array-copy-out-t12
-array-copy-out-t12 c = search needs
+array-copy-out-t13 : tie.Need-array-copy-out-t13
+array-copy-out-t13 c = search needs
 
-array-copy-out-t15 : tie.Need-array-copy-out-t15
-array-copy-out-t15 c = search needs
+array-copy-out-t16 : tie.Need-array-copy-out-t16
+array-copy-out-t16 c = search needs
 
-array-copy-out-t18 : tie.Need-array-copy-out-t18
-array-copy-out-t18 c = search needs
+array-copy-out-t19 : tie.Need-array-copy-out-t19
+array-copy-out-t19 c = search needs
 
-array-copy-out-t21 : tie.Need-array-copy-out-t21
-array-copy-out-t21 c = search needs
+array-copy-out-t22 : tie.Need-array-copy-out-t22
+array-copy-out-t22 c = search needs
 
-array-copy-out-t24 : tie.Need-array-copy-out-t24
-array-copy-out-t24 c = search needs
+array-copy-out-t25 : tie.Need-array-copy-out-t25
+array-copy-out-t25 c = search needs
 
-array-copy-out-t27 : tie.Need-array-copy-out-t27
-array-copy-out-t27 c = search needs
+array-copy-out-t28 : tie.Need-array-copy-out-t28
+array-copy-out-t28 c = search needs
 
 instant-of-requires : tie.Need-instant-of-requires
 instant-of-requires c κs = search needs
@@ -61,23 +61,11 @@ write-numbers-requires-2 c κs = search needs
 write-newline-requires : tie.Need-write-newline-requires
 write-newline-requires c κs = search needs
 
-enum-told : tie.Need-enum-told
-enum-told c = search needs
+enum-known-refusal : tie.Need-enum-known-refusal
+enum-known-refusal c = search needs
 
 write-refusal-requires : tie.Need-write-refusal-requires
 write-refusal-requires c κs = search needs
-
-enum-told-2 : tie.Need-enum-told-2
-enum-told-2 c = search needs
-
-write-refusal-requires-2 : tie.Need-write-refusal-requires-2
-write-refusal-requires-2 c κs = search needs
-
-enum-told-3 : tie.Need-enum-told-3
-enum-told-3 c = search needs
-
-write-refusal-requires-3 : tie.Need-write-refusal-requires-3
-write-refusal-requires-3 c κs = search needs
 
 returns : tie.Need-returns
 returns c = search needs
@@ -85,23 +73,17 @@ returns c = search needs
 returns-2 : tie.Need-returns-2
 returns-2 c = search needs
 
-returns-3 : tie.Need-returns-3
-returns-3 c = search needs
-
-returns-4 : tie.Need-returns-4
-returns-4 c = search needs
-
 pub answer-instant-spec : {M : Type 1} → statement M
 answer-instant-spec =
     tie.close
     (tie.spec
-    array-copy-out-t9
-    array-copy-out-t12
-    array-copy-out-t15
-    array-copy-out-t18
-    array-copy-out-t21
-    array-copy-out-t24
-    array-copy-out-t27
+    array-copy-out-t10
+    array-copy-out-t13
+    array-copy-out-t16
+    array-copy-out-t19
+    array-copy-out-t22
+    array-copy-out-t25
+    array-copy-out-t28
     instant-of-requires
     enum-known-n
     write-number-requires
@@ -111,13 +93,7 @@ answer-instant-spec =
     slice-aggregate-write-numbers-2
     write-numbers-requires-2
     write-newline-requires
-    enum-told
+    enum-known-refusal
     write-refusal-requires
-    enum-told-2
-    write-refusal-requires-2
-    enum-told-3
-    write-refusal-requires-3
     returns
-    returns-2
-    returns-3
-    returns-4)
+    returns-2)

@@ -1,0 +1,2 @@
+-- The laws that the crates above use.
+pub mod Decisions
