@@ -1,6 +1,6 @@
 /* The field book for C: the functions of the static library libcapi.a (`rt staticlib capi`).
    Each is proved, and docs/PROMISES.md says what that means. They keep nothing between two calls, take any
-   numbers, and may be called by several threads at once. */
+   numbers, write to no memory of the caller, and may be called by several threads at once. */
 #ifndef FIELDBOOK_H
 #define FIELDBOOK_H
 
@@ -22,19 +22,20 @@ enum fieldbook_refusal {
     FIELDBOOK_NEAR_ZENITH = 8    /* the body is too near the zenith for an azimuth */
 };
 
-/* Which word holds which angle, each in units of 0.0001 second of arc, 0 to 12,959,999,999. */
-enum fieldbook_angle {
-    FIELDBOOK_AZIMUTH = 0,    /* from north, clockwise */
-    FIELDBOOK_ZENITH = 1,     /* from the zenith, without refraction */
-    FIELDBOOK_HOUR_ANGLE = 2, /* from the meridian, westward */
-    FIELDBOOK_LONGITUDE = 3   /* the Sun's apparent longitude s; 0 for Polaris */
+/* A shot's answer. CHECK THE REFUSAL FIRST: A REFUSED SHOT HAS NO ANGLES. Its four angles are 0,
+   and 0 is also the azimuth of true north. Each angle is in units of 0.0001 second of arc, 0 to
+   12,959,999,999. */
+struct fieldbook_answer {
+    uint64_t refusal;    /* an enum fieldbook_refusal, 0 where the shot is answered */
+    uint64_t azimuth;    /* from north, clockwise */
+    uint64_t zenith;     /* from the zenith, without refraction */
+    uint64_t hour_angle; /* from the meridian, westward */
+    uint64_t longitude;  /* the Sun's apparent longitude s; 0 for Polaris */
 };
 
 enum fieldbook_body { FIELDBOOK_SUN = 1, FIELDBOOK_POLARIS = 2 };
 
-/* The shot: where a body stands. Returns the refusal's number, 0 where the shot is answered. An
-   answered shot writes its four angles; a refused one writes nothing. angles must lead to four
-   words; nothing else is asked of the caller.
+/* The shot: where a body stands.
 
    year, month, day    Gregorian date, UTC, 1976-01-01 to 2049-12-31
    hour, minute        0 to 23, 0 to 59
@@ -42,10 +43,16 @@ enum fieldbook_body { FIELDBOOK_SUN = 1, FIELDBOOK_POLARIS = 2 };
    dut1                UT1 - UTC in milliseconds, -900 to 900
    latitude            in 0.1 seconds of arc, north positive, -3,204,000 to 3,204,000
    longitude           in 0.1 seconds of arc, east positive, -6,479,999 to 6,480,000
-   body                an enum fieldbook_body */
-uint64_t fieldbook_shot(int64_t year, int64_t month, int64_t day, int64_t hour, int64_t minute,
-                        int64_t millisecond, int64_t dut1, int64_t latitude, int64_t longitude,
-                        int64_t body, uint64_t angles[4]);
+   body                an enum fieldbook_body
+
+       struct fieldbook_answer a =
+           fieldbook_shot(1984, 7, 2, 14, 30, 0, 0, 1224000, -4230000, FIELDBOOK_SUN);
+       if (a.refusal != FIELDBOOK_ANSWERED)
+           return a.refusal;
+       set_out(a.azimuth); */
+struct fieldbook_answer fieldbook_shot(int64_t year, int64_t month, int64_t day, int64_t hour,
+                                       int64_t minute, int64_t millisecond, int64_t dut1,
+                                       int64_t latitude, int64_t longitude, int64_t body);
 
 #ifdef __cplusplus
 }

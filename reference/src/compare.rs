@@ -110,68 +110,25 @@ pub fn equal_outputs(expected: &[u8], given: &[u8]) -> Result<Counts, String> {
     }
 }
 
-/// What a door leaves in the lent words when it refuses a shot.
-#[derive(Clone, Copy, Debug, PartialEq, Eq)]
-pub enum Refused {
-    Zeros,
-    Unchanged,
-}
-
-/// Words on either side of the lent ones.
-const GUARDS: usize = 8;
-
-/// Four lent words between guard words of one pattern.
-struct GuardedWords {
-    pattern: u64,
-    words: [u64; GUARDS + 4 + GUARDS],
-}
-
-impl GuardedWords {
-    /// All words set to the pattern.
-    fn new(pattern: u64) -> Self {
-        GuardedWords { pattern, words: [pattern; GUARDS + 4 + GUARDS] }
-    }
-
-    /// The four words in the middle.
-    fn lent(&mut self) -> &mut [u64; 4] {
-        (&mut self.words[GUARDS..GUARDS + 4]).try_into().expect("four words")
-    }
-
-    /// Whether the lent words hold these and all guards the pattern.
-    fn hold(&self, lent: [u64; 4]) -> bool {
-        let mut expected = [self.pattern; GUARDS + 4 + GUARDS];
-        expected[GUARDS..GUARDS + 4].copy_from_slice(&lent);
-        self.words == expected
-    }
-}
-
-/// Compares a door (ten numbers and four lent words in, refusal number out) with this
-/// program on random shots; the error tells the first shot that differs.
+/// Compares a door (ten numbers in, refusal number and four angles out) with this program on
+/// random shots; the error tells the first shot that differs.
 pub fn compare_door(
     sine: &Sine,
     (seed, count): (u64, u64),
-    refused: Refused,
-    mut door: impl FnMut(&Fields, &mut [u64; 4]) -> u64,
+    mut door: impl FnMut(&Fields) -> (u64, [u64; 4]),
 ) -> Result<Counts, String> {
     let mut random = Random::new(seed);
     let mut counts = Counts::default();
     for _ in 0..count {
         let fields = shot_fields(&mut random, sine);
-        let mut words = GuardedWords::new(random.bits());
-        let number = door(&fields, words.lent());
+        let given = door(&fields);
         let result = shot(sine, &fields);
-        let expected = match (result, refused) {
-            (Ok(a), _) => a.words(),
-            (Err(_), Refused::Zeros) => [0; 4],
-            (Err(_), Refused::Unchanged) => [words.pattern; 4],
+        let expected = match result {
+            Ok(a) => (0, a.words()),
+            Err(refusal) => (refusal.number() as u64, [0; 4]),
         };
-        let expected_number = result.map_or_else(Refusal::number, |_| 0) as u64;
-        if number != expected_number || !words.hold(expected) {
-            let given = words.lent();
-            return Err(format!(
-                "{}: {expected_number} {expected:?} expected, {number} {given:?} given",
-                joined(&fields)
-            ));
+        if given != expected {
+            return Err(format!("{}: {expected:?} expected, {given:?} given", joined(&fields)));
         }
         counts.take_shot(&result);
     }

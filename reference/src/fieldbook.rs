@@ -30,7 +30,7 @@ pub struct Angles {
 }
 
 impl Angles {
-    /// The four angles in the order in which a door writes them into lent words.
+    /// The four angles in the order in which a door answers them.
     pub fn words(&self) -> [u64; 4] {
         [self.azimuth, self.zenith_distance, self.hour_angle, self.apparent_longitude]
             .map(|angle| angle as u64)

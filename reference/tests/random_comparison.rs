@@ -2,7 +2,7 @@
 //! another that differs.
 
 use reference::compare::{
-    compare_door, equal_outputs, random_lines, random_shots, Refused, REFUSALS_OF_A_SESSION,
+    compare_door, equal_outputs, random_lines, random_shots, REFUSALS_OF_A_SESSION,
     REFUSALS_OF_A_SHOT,
 };
 use reference::fieldbook::{shot, Fields};
@@ -11,35 +11,35 @@ use reference::sine::Sine;
 
 const COUNT: u64 = 20_000;
 
-/// This program's shot behind a door that leaves the words unchanged when it refuses.
-fn door(sine: &Sine, fields: &Fields, words: &mut [u64; 4]) -> u64 {
+/// This program's shot behind a door.
+fn door(sine: &Sine, fields: &Fields) -> (u64, [u64; 4]) {
     match shot(sine, fields) {
-        Ok(a) => {
-            *words = a.words();
-            0
-        }
-        Err(refusal) => refusal.number() as u64,
+        Ok(a) => (0, a.words()),
+        Err(refusal) => (refusal.number() as u64, [0; 4]),
     }
 }
 
 #[test]
 fn shots_reach_every_refusal() {
     let sine = Sine::new();
-    let same = |fields: &Fields, words: &mut [u64; 4]| door(&sine, fields, words);
-    let counts = compare_door(&sine, (1, COUNT), Refused::Unchanged, same).unwrap();
+    let counts = compare_door(&sine, (1, COUNT), |fields| door(&sine, fields)).unwrap();
     assert_eq!(counts.all_reached(&REFUSALS_OF_A_SHOT), Ok(()));
-    assert!(compare_door(&sine, (1, COUNT), Refused::Zeros, same).is_err());
 }
 
 #[test]
 fn a_door_that_differs_is_found() {
     let sine = Sine::new();
-    let late = |fields: &Fields, words: &mut [u64; 4]| {
-        let number = door(&sine, fields, words);
-        words[3] += u64::from(number == 0 && fields[0] == 2049);
-        number
+    let late = |fields: &Fields| {
+        let (number, mut angles) = door(&sine, fields);
+        angles[3] += u64::from(number == 0 && fields[0] == 2049);
+        (number, angles)
     };
-    assert!(compare_door(&sine, (1, COUNT), Refused::Unchanged, late).is_err());
+    assert!(compare_door(&sine, (1, COUNT), late).is_err());
+    let refused_with_an_angle = |fields: &Fields| match door(&sine, fields) {
+        (8, _) => (8, [0, 0, 0, 1]),
+        answer => answer,
+    };
+    assert!(compare_door(&sine, (1, COUNT), refused_with_an_angle).is_err());
 }
 
 #[test]

@@ -1,24 +1,7 @@
 //! The proved field book for Rust: a safe wrapper of the static library's functions. The units
 //! are those of `capi/fieldbook.h`.
 
-mod door {
-    extern "C" {
-        /// `fieldbook_shot` of `capi/fieldbook.h`.
-        pub fn fieldbook_shot(
-            year: i64,
-            month: i64,
-            day: i64,
-            hour: i64,
-            minute: i64,
-            millisecond: i64,
-            dut1: i64,
-            latitude: i64,
-            longitude: i64,
-            body: i64,
-            angles: &mut [u64; 4],
-        ) -> u64;
-    }
-}
+mod door;
 
 /// The ten numbers of a shot; any numbers may be given.
 #[derive(Clone, Copy, Debug, PartialEq, Eq)]
@@ -73,14 +56,35 @@ impl From<[i64; 10]> for Numbers {
     }
 }
 
-/// The shot.
+impl Numbers {
+    /// The fields in the card's order.
+    fn fields(&self) -> [i64; 10] {
+        let Numbers {
+            year,
+            month,
+            day,
+            hour,
+            minute,
+            millisecond,
+            dut1,
+            latitude,
+            longitude,
+            body,
+        } = *self;
+        [year, month, day, hour, minute, millisecond, dut1, latitude, longitude, body]
+    }
+}
+
+/// The shot: its angles, or why there are none.
 pub fn shot(numbers: &Numbers) -> Result<Angles, Refusal> {
-    let mut words = [0; 4];
-    match shot_into(numbers, &mut words) {
-        0 => {
-            let [azimuth, zenith_angle, hour_angle, longitude] = words;
-            Ok(Angles { azimuth, zenith_angle, hour_angle, longitude })
-        }
+    let answer = door::shot(numbers.fields());
+    match answer.refusal {
+        0 => Ok(Angles {
+            azimuth: answer.azimuth,
+            zenith_angle: answer.zenith,
+            hour_angle: answer.hour_angle,
+            longitude: answer.longitude,
+        }),
         2 => Err(Refusal::NoDate),
         3 => Err(Refusal::NoTime),
         4 => Err(Refusal::NoDut1),
@@ -89,28 +93,5 @@ pub fn shot(numbers: &Numbers) -> Result<Angles, Refusal> {
         7 => Err(Refusal::BelowHorizon),
         8 => Err(Refusal::NearZenith),
         number => unreachable!("a plain shot is never refused by {number}"),
-    }
-}
-
-/// The shot as the door gives it: the refusal's number, 0 for none, and the four angles in the
-/// lent words, which a refused shot leaves as they are.
-pub fn shot_into(numbers: &Numbers, angles: &mut [u64; 4]) -> u64 {
-    let n = numbers;
-    // SAFETY: the function is proved for all numbers; it asks only for four words that it may
-    // write, which the reference grants, and keeps no pointer to them.
-    unsafe {
-        door::fieldbook_shot(
-            n.year,
-            n.month,
-            n.day,
-            n.hour,
-            n.minute,
-            n.millisecond,
-            n.dut1,
-            n.latitude,
-            n.longitude,
-            n.body,
-            angles,
-        )
     }
 }
