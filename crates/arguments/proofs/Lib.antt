@@ -1,2 +1,3 @@
-pub mod Printed
-pub mod Moments
+pub mod Sizes
+pub mod Angles
+pub mod Filling

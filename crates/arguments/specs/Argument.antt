@@ -1,22 +1,23 @@
--- Document 01, "Time": "An argument with coefficients c0, c1, c2 is c0 + floor(c1·N/C) + floor(c2·q²/10^12), reduced."
+-- Document 01, "Time": the angle that three coefficients give at an epoch.
 -- Assumes nothing.
-use Prim.Native.Nat.{ℕ, _<_, _^_}
-use lib.IntN.{ℤ, natAbs, _+ℤ_, _*ℤ_}
+use Prim.Native.Nat.{ℕ, _^_}
+use mathlib.Core.List.{List, map}
+use lib.IntN.{ℤ, pos, _+ℤ_, _*ℤ_}
+use lib.ListN.{getD}
 use Rattle.exact.specs.Angle.{reduced}
 use Rattle.exact.specs.Century.{century}
 use Rattle.exact.specs.Division.{floorDiv}
-use Rattle.arguments.specs.declared.Coefficients.{Coefficients}
+use Rattle.secular.specs.Polynomial.{polynomial, value}
+use Rattle.epoch.specs.declared.Epoch.{Epoch}
 
-unfoldable pub argument : Coefficients → ℤ → ℤ → ℕ
-argument c n q = reduced (c .c0 +ℤ floorDiv (c .c1 *ℤ n) century +ℤ floorDiv (c .c2 *ℤ (q *ℤ q)) (10 ^ 12))
+-- c0, c1 or c2 of a row
+abbrev pub at : List ℤ → ℕ → ℤ
+at row i = getD row i (pos 0)
 
--- how large coefficients may be: all those of the papers are smaller
-pub record Sized (c : Coefficients) : Type 0 where
-  pub c0 : natAbs (c .c0) < 2 ^ 40
-  pub c1 : natAbs (c .c1) < 2 ^ 45
-  pub c2 : natAbs (c .c2) < 2 ^ 20
+-- c1 goes with N itself, c0 and c2 are a floored polynomial in q; the sum is reduced
+unfoldable pub argument : List ℤ → Epoch → ℕ
+argument row e = reduced (floorDiv (at row 1 *ℤ e .n) century +ℤ value (polynomial (at row 0) (pos 0) (at row 2) (10 ^ 12)) (e .q))
 
--- and N and q
-pub record Moment (n q : ℤ) : Type 0 where
-  pub instant : natAbs n < 2 ^ 45
-  pub millionths : natAbs q < 2 ^ 21
+-- of each row of a table, held as signed numbers so that multiples of them can be taken
+abbrev pub argumentsBy : List (List ℤ) → Epoch → List ℤ
+argumentsBy rows e = map (λ row. pos (argument row e)) rows

@@ -1,23 +1,22 @@
--- The range of N and q for every accepted instant, from the definitions alone: a date of the years accepted has its D between those of the first and the last
--- day, a time of day its millisecond, and DUT1 its 900 ms.
+-- The epochs of every accepted instant lie in the span, from the definitions alone: a date of the years accepted has its D between those of the first and the
+-- last day, a time of day its millisecond, and DUT1 its 900 ms.
 -- Assumes nothing.
 use mathlib.Core.Path.{_≡_, refl, ap, subst}
 use mathlib.Core.Bool.{Bool, true, false, cond, _&&_}
 use Prim.Native.Nat.{ℕ, suc, _+_, _-_, _*_, _≤_}
 use native.Mathlib.Omega.{arith}
-use lib.Dec.{eqb, lit<}
-use lib.IntN.{ℤ, pos, negsuc, natAbs, _+ℤ_, _-ℤ_, _*ℤ_}
+use lib.Dec.{eqb}
+use lib.IntN.{ℤ, pos, negsuc, natAbs, _+ℤ_, _-ℤ_}
 use lib.ListN.{getD, take}
 use lib.Signed.{_≤ℤ_}
-use Rattle.exact.specs.Century.{century}
-use Rattle.exact.specs.Division.{floorDiv}
 use Rattle.exact.specs.Range.{between}
 use Rattle.exact.proofs.Differences.{split, zs}
-use Rattle.exact.proofs.Division.{floor-mono}
 use Rattle.exact.proofs.Machine.{and-true, between-low, between-high, between-nat}
-use Rattle.calendar.specs.Date.{leapYear, months, total, monthLength, monthDays, yearDays, dayCount, isDate}
-use Rattle.calendar.specs.Time.{leapSecondDay, lastMillisecond, isTime, dayMillisecond, isDut1, sinceNoon, instant, millionths, InstantValues, accepted, refused, instantOf, InstantRange, MillionthsRange}
+use Rattle.epoch.specs.Sizes.{Span, InSpan}
+use Rattle.calendar.specs.Date.{leapYear, months, total, monthLength, monthDays, dayCount, isDate}
+use Rattle.calendar.specs.Time.{leapSecondDay, lastMillisecond, isTime, dayMillisecond, isDut1, sinceNoon, instant, epochsOf, InstantValues, accepted, refused, instantOf}
 use Rattle.calendar.specs.declared.CivilTime.{CivilTime}
+use Rattle.calendar.specs.declared.Epochs.{Epochs}
 use Rattle.calendar.proofs.Count.{month-length, take-le, in-range}
 
 -- ---- D
@@ -54,7 +53,7 @@ time-range month day hour minute ms e =
     let s = between-nat 0 last ms (r .1) in
     omega (arith, h .2, m .2, s .2, last-le (natAbs month) (natAbs day) (natAbs hour) (natAbs minute))
 
--- ---- N and q
+-- ---- N
 pub dut1-le : (z : ℤ) → isDut1 z ≡ true → natAbs z ≤ 900
 unfolding isDut1
 dut1-le z e = go z (between-low _ _ _ e) (between-high _ _ _ e)
@@ -62,61 +61,44 @@ dut1-le z e = go z (between-low _ _ _ e) (between-high _ _ _ e)
     go : (z : ℤ) → negsuc 899 ≤ℤ z → z ≤ℤ pos 900 → natAbs z ≤ 900
     go z = rw (split z) (simp zs (omega arith))
 
-noon-range : (day ms : ℕ) (dut1 : ℤ) → 27759 ≤ day → day ≤ 54787 → ms ≤ 86400999 → natAbs dut1 ≤ 900 → InstantRange (sinceNoon day ms dut1)
+noon-range : (day ms : ℕ) (dut1 : ℤ) → 27759 ≤ day → day ≤ 54787 → ms ≤ 86400999 → natAbs dut1 ≤ 900 → Span (sinceNoon day ms dut1)
 unfolding sinceNoon
 noon-range day ms dut1 = go (pos (86400000 * day)) refl
   where
-    go : (x : ℤ) → x ≡ pos (86400000 * day) → 27759 ≤ day → day ≤ 54787 → ms ≤ 86400999 → natAbs dut1 ≤ 900 → InstantRange (x -ℤ pos 43200000 +ℤ pos ms +ℤ dut1)
+    go : (x : ℤ) → x ≡ pos (86400000 * day) → 27759 ≤ day → day ≤ 54787 → ms ≤ 86400999 → natAbs dut1 ≤ 900 → Span (x -ℤ pos 43200000 +ℤ pos ms +ℤ dut1)
     go x = rw (split x, split dut1) (simp zs (omega arith))
 
-pub millionths-range : (n : ℤ) → InstantRange n → MillionthsRange (millionths n)
-unfolding millionths floorDiv
-millionths-range n h =
-    let s = scaled n h in (
-      floor-mono (pos 2398334399100000000) (pos 1000000 *ℤ n) century (lit< tt) (s .0),
-      floor-mono (pos 1000000 *ℤ n) (pos 4733640001899000000) century (lit< tt) (s .1),
-    )
-  where
-    scaled : (n : ℤ) → InstantRange n → (pos 2398334399100000000 ≤ℤ (pos 1000000 *ℤ n)) × ((pos 1000000 *ℤ n) ≤ℤ pos 4733640001899000000)
-    scaled n = rw (split n) (simp zs (omega arith))
-
 -- ---- an accepted instant
-record Tested (t : CivilTime) (n q : ℤ) : Type 0 where
+record Tested (t : CivilTime) (es : Epochs) : Type 0 where
   pub date : isDate (t .year) (t .month) (t .day) ≡ true
   pub time : isTime (t .month) (t .day) (t .hour) (t .minute) (t .millisecond) ≡ true
   pub dut1 : isDut1 (t .dut1) ≡ true
-  pub n-is : instant t ≡ n
-  pub q-is : millionths (instant t) ≡ q
+  pub epochs : epochsOf (instant t) ≡ es
 
-tested : (t : CivilTime) (n q : ℤ) → instantOf t ≡ accepted n q → Tested t n q
+tested : (t : CivilTime) (es : Epochs) → instantOf t ≡ accepted es → Tested t es
 unfolding instantOf
-tested t n q e = by (isDate (t .year) (t .month) (t .day)) refl (isTime (t .month) (t .day) (t .hour) (t .minute) (t .millisecond)) refl (isDut1 (t .dut1)) refl e
+tested t es e = by (isDate (t .year) (t .month) (t .day)) refl (isTime (t .month) (t .day) (t .hour) (t .minute) (t .millisecond)) refl (isDut1 (t .dut1)) refl e
   where
-    no : (k : ℕ) → refused (suc k) ≡ accepted n q → ⊥
+    no : (k : ℕ) → refused (suc k) ≡ accepted es → ⊥
     no k e = let z : suc k ≡ 0 = ap (λ (a : InstantValues). a .refusal) e in omega arith
 
     by : (d : Bool) → isDate (t .year) (t .month) (t .day) ≡ d → (m : Bool) → isTime (t .month) (t .day) (t .hour) (t .minute) (t .millisecond) ≡ m
         → (u : Bool) → isDut1 (t .dut1) ≡ u
-        → cond d (cond m (cond u (accepted (instant t) (millionths (instant t))) (refused 4)) (refused 3)) (refused 2) ≡ accepted n q → Tested t n q
+        → cond d (cond m (cond u (accepted (epochsOf (instant t))) (refused 4)) (refused 3)) (refused 2) ≡ accepted es → Tested t es
     by false ed m em u eu e = absurd (no 1 e)
     by true ed false em u eu e = absurd (no 2 e)
     by true ed true em false eu e = absurd (no 3 e)
-    by true ed true em true eu e =
-        record { date = ed; time = em; dut1 = eu; n-is = ap (λ (a : InstantValues). a .n) e; q-is = ap (λ (a : InstantValues). a .q) e }
+    by true ed true em true eu e = record { date = ed; time = em; dut1 = eu; epochs = ap (λ (a : InstantValues). a .epochs) e }
 
-pub accepted-range : (t : CivilTime) (n q : ℤ) → instantOf t ≡ accepted n q → InstantRange n × MillionthsRange q
-accepted-range t n q e =
-    let k = tested t n q e in
+pub accepted-in-span : (t : CivilTime) (es : Epochs) → instantOf t ≡ accepted es → InSpan (es .universal) × InSpan (es .ephemeris)
+accepted-in-span t es e =
+    let k = tested t es e in
     let d = date-range (t .year) (t .month) (t .day) (k .date) in
-    let r = within t d (time-range (t .month) (t .day) (t .hour) (t .minute) (t .millisecond) (k .time)) (dut1-le (t .dut1) (k .dut1)) in
-    (subst InstantRange (k .n-is) r, subst MillionthsRange (k .q-is) (millionths-range (instant t) r))
+    let m = time-range (t .month) (t .day) (t .hour) (t .minute) (t .millisecond) (k .time) in
+    let r = within t d m (dut1-le (t .dut1) (k .dut1)) in
+    let i : InSpan (epochsOf (instant t) .universal) = record { span = r; millionths = refl } in
+    subst (λ (es : Epochs). InSpan (es .universal) × InSpan (es .ephemeris)) (k .epochs) (i, i)
   where
     within : (t : CivilTime) → (27759 ≤ dayCount (natAbs (t .year)) (natAbs (t .month)) (natAbs (t .day))) × (dayCount (natAbs (t .year)) (natAbs (t .month)) (natAbs (t .day)) ≤ 54787)
-        → dayMillisecond (t .hour) (t .minute) (t .millisecond) ≤ 86400999 → natAbs (t .dut1) ≤ 900 → InstantRange (instant t)
+        → dayMillisecond (t .hour) (t .minute) (t .millisecond) ≤ 86400999 → natAbs (t .dut1) ≤ 900 → Span (instant t)
     within t d m u = unfold instant in noon-range _ _ (t .dut1) (d .0) (d .1) m u
-
-pub millionths-le : (q : ℤ) → MillionthsRange q → natAbs q ≤ 1500000
-millionths-le q = rw (split q) (simp zs (omega arith))
-
-pub accepted-millionths : (t : CivilTime) (n q : ℤ) → instantOf t ≡ accepted n q → natAbs q ≤ 1500000
-accepted-millionths t n q e = millionths-le q (accepted-range t n q e .1)

@@ -5,17 +5,18 @@ use Prim.Native.Nat.{ℕ, _+_, _*_, _≤_}
 use mathlib.Core.Bool.{Bool, cond, _&&_, _||_}
 use mathlib.Core.List.{List, [], _∷_}
 use lib.Dec.{eqb}
-use lib.IntN.{ℤ, pos, negsuc, natAbs, _+ℤ_, _-ℤ_, _*ℤ_}
-use lib.Signed.{_≤ℤ_}
+use lib.IntN.{ℤ, pos, negsuc, natAbs, _+ℤ_, _-ℤ_}
 use Rattle.refusal.specs.Numbers.{numberOf}
 use Rattle.refusal.specs.Tests.{Test, test, decided}
-use Rattle.exact.specs.Century.{century}
-use Rattle.exact.specs.Division.{floorDiv}
 use Rattle.exact.specs.Range.{between}
+use Rattle.epoch.specs.Epoch.{epoch, epochOf}
+use Rattle.epoch.specs.Sizes.{InSpan}
+use Rattle.epoch.specs.declared.Epoch.{Epoch}
 use Rattle.calendar.specs.Date.{isDate, dayCount}
 use Rattle.calendar.specs.declared.CivilTime.{CivilTime}
 use Rattle.calendar.specs.declared.Clock.{Clock}
 use Rattle.calendar.specs.declared.Clock.the-variants.{Millisecond, NotATime}
+use Rattle.calendar.specs.declared.Epochs.{Epochs}
 use Rattle.calendar.specs.declared.Instant.{Instant}
 use Rattle.calendar.specs.declared.Instant.the-variants.{Accepted, Refused}
 
@@ -49,21 +50,24 @@ unfoldable pub instant : CivilTime → ℤ
 instant t =
     sinceNoon (dayCount (natAbs (t .year)) (natAbs (t .month)) (natAbs (t .day))) (dayMillisecond (t .hour) (t .minute) (t .millisecond)) (t .dut1)
 
--- 01's q, millionths of a century since then
-unfoldable pub millionths : ℤ → ℤ
-millionths n = floorDiv (pos 1000000 *ℤ n) century
+-- one epoch for both times
+abbrev pub both : Epoch → Epochs
+both e = record { universal = e; ephemeris = e }
 
--- what the seven numbers are answered with: 0 with N and q, or a refusal's number with zeros
+-- the two epochs of N
+abbrev pub epochsOf : ℤ → Epochs
+epochsOf n = both (epochOf n)
+
+-- what the seven numbers are answered with: 0 with the epochs, or a refusal's number with zeros
 pub record InstantValues : Type 0 where
   pub refusal : ℕ
-  pub n : ℤ
-  pub q : ℤ
+  pub epochs : Epochs
 
 abbrev pub refused : ℕ → InstantValues
-refused k = record { refusal = k; n = pos 0; q = pos 0 }
+refused k = record { refusal = k; epochs = both (epoch (pos 0) (pos 0)) }
 
-abbrev pub accepted : ℤ → ℤ → InstantValues
-accepted n q = record { refusal = 0; n = n; q = q }
+abbrev pub accepted : Epochs → InstantValues
+accepted es = record { refusal = 0; epochs = es }
 
 -- what is asked of an instant, in the stated order
 abbrev pub instantTests : CivilTime → List Test
@@ -74,11 +78,11 @@ instantTests t =
     ∷ []
 
 unfoldable pub instantOf : CivilTime → InstantValues
-instantOf t = decided (instantTests t) (accepted (instant t) (millionths (instant t))) refused
+instantOf t = decided (instantTests t) (accepted (epochsOf (instant t))) refused
 
 -- 01's number and values of each case of the code's answer
 abbrev pub instantValues : Instant → InstantValues
-instantValues (Accepted n q) = accepted n q
+instantValues (Accepted es) = accepted es
 instantValues (Refused r) = refused (numberOf r)
 
 -- the millisecond of the day as the code answers it
@@ -91,13 +95,7 @@ abbrev pub ClockInRange : Clock → Type 0
 ClockInRange (Millisecond ms) = ms ≤ 86400999
 ClockInRange NotATime = Unit {0}
 
--- the range of N and of q where an instant is accepted: from 1976-01-01 with DUT1 −900 to the leap second of 2049-12-31 with DUT1 900
-abbrev pub InstantRange : ℤ → Type 0
-InstantRange n = (pos 2398334399100 ≤ℤ n) × (n ≤ℤ pos 4733640001899)
-
-abbrev pub MillionthsRange : ℤ → Type 0
-MillionthsRange q = (pos 759986 ≤ℤ q) × (q ≤ℤ pos 1500000)
-
+-- the epochs of an accepted instant have the size that the theory asks
 abbrev pub InRange : Instant → Type 0
-InRange (Accepted n q) = InstantRange n × MillionthsRange q
+InRange (Accepted es) = InSpan (es .universal) × InSpan (es .ephemeris)
 InRange (Refused r) = Unit {0}

@@ -1,10 +1,12 @@
-// The calendar: Gregorian dates, the instant N and q. Document 01, "The card" (fields 1 to 7) and "Time".
+// The calendar: Gregorian dates, and the two epochs of an instant. Document 01, "The card" (fields 1 to 7) and "Time".
 ghost use mathlib.Core.Path.{_≡_};
 ghost use Prim.Native.Nat.{_≤_, _<_};
 ghost use lib.IntN.{natAbs};
 ghost use lib.ListN.{take};
 ghost use Rattle.calendar.specs.Date.{leapYear, months, total, yearDays, dayOf, DayInRange};
-ghost use Rattle.calendar.specs.Time.{leapSecondDay, lastMillisecond, clockOf, ClockInRange, sinceNoon, millionths, InstantRange, MillionthsRange, instantOf, instantValues, InRange};
+ghost use Rattle.calendar.specs.Time.{leapSecondDay, lastMillisecond, clockOf, ClockInRange, sinceNoon, epochsOf, instantOf, instantValues, InRange};
+ghost use Rattle.epoch.specs.Sizes.{Span, InSpan};
+use epoch::Epoch;
 use refusal::Refusal;
 
 // Fields 1 to 7 of the card: the date, the time of day in UTC, and DUT1 in milliseconds.
@@ -18,9 +20,15 @@ pub struct CivilTime {
     pub dut1: i64,
 }
 
-// What seven numbers are answered with: N and q, or why they name no instant, 2, 3 or 4.
+// The two epochs of an accepted instant: universal time turns the Earth, all else runs by ephemeris time.
+pub struct Epochs {
+    pub universal: Epoch,
+    pub ephemeris: Epoch,
+}
+
+// What seven numbers are answered with: their epochs, or why they name no instant, 2, 3 or 4.
 pub enum Instant {
-    Accepted(i64, i64),
+    Accepted(Epochs),
     Refused(Refusal),
 }
 
@@ -135,20 +143,24 @@ fn day_millisecond(month: i64, day: i64, hour: i64, minute: i64, millisecond: i6
 // N: the milliseconds since 1900 January 0.5.
 fn since_1900(day: u64, ms: u64, dut1: i64) -> i64
     requires { ⌜ ((27759 ≤ day) × (day ≤ 54787)) × (ms ≤ 86400999) × (natAbs dut1 ≤ 900) ⌝ }
-    ensures { λ r. ⌜ (r ≡ sinceNoon day ms dut1) × InstantRange r ⌝ }
+    ensures { λ r. ⌜ (r ≡ sinceNoon day ms dut1) × Span r ⌝ }
 {
     (86_400_000 * day + ms) as i64 - 43_200_000 + dut1
 }
 
-// q: the millionths of a century since then.
-fn millionths(n: i64) -> i64
-    requires { ⌜ InstantRange n ⌝ }
-    ensures { λ r. ⌜ (r ≡ millionths n) × MillionthsRange r ⌝ }
+// The epochs of an accepted instant. Both are those of N: no rule tells the two times apart.
+fn epochs_of(n: i64) -> Epochs
+    requires { ⌜ Span n ⌝ }
+    ensures { λ r. ⌜ (r ≡ epochsOf n) × (InSpan (r .universal) × InSpan (r .ephemeris)) ⌝ }
 {
-    exact::per_century(1_000_000, n)
+    let e = epoch::epoch_of(n);
+    Epochs {
+        universal: e,
+        ephemeris: e,
+    }
 }
 
-// The instant of any seven numbers: N and q, or the lowest refusal that applies.
+// The instant of any seven numbers: its epochs, or the lowest refusal that applies.
 pub fn instant_of(t: CivilTime) -> Instant
     ensures { λ r. ⌜ (instantValues r ≡ instantOf t) × InRange r ⌝ }
 {
@@ -162,6 +174,5 @@ pub fn instant_of(t: CivilTime) -> Instant
     if !exact::between(-900, t.dut1, 900) {
         return Instant::Refused(Refusal::NoDut1);
     }
-    let n = since_1900(day, ms, t.dut1);
-    Instant::Accepted(n, millionths(n))
+    Instant::Accepted(epochs_of(since_1900(day, ms, t.dut1)))
 }

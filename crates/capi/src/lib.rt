@@ -3,7 +3,6 @@
 ghost use mathlib.Core.Path.{_≡_};
 ghost use Rattle.fieldbook.specs.Shot.{InTurn, shotOf};
 ghost use Rattle.capi.specs.Door.{numbers, valuesIn};
-use card::Numbers;
 use fieldbook::Outcome;
 
 // What a shot answers, laid out as in C: the refusal's number, 0 for none, and azimuth, zenith angle, hour angle and s, in units of
@@ -33,19 +32,19 @@ pub extern "C" fn fieldbook_shot(
 ) -> Answer
     ensures { λ r. ⌜ (valuesIn r ≡ shotOf (numbers year month day hour minute millisecond dut1 latitude longitude body)) × InTurn (valuesIn r) ⌝ }
 {
-    let given = Numbers {
-        year: year,
-        month: month,
-        day: day,
-        hour: hour,
-        minute: minute,
-        millisecond: millisecond,
-        dut1: dut1,
-        latitude: latitude,
-        longitude: longitude,
-        body: body,
-    };
-    match fieldbook::shot(given) {
+    let fields = [
+        year,
+        month,
+        day,
+        hour,
+        minute,
+        millisecond,
+        dut1,
+        latitude,
+        longitude,
+        body,
+    ];
+    match fieldbook::shot(fieldbook::numbers_of(fields)) {
         Outcome::Answered(a) => Answer {
             refusal: 0,
             azimuth: a.azimuth,

@@ -1,5 +1,5 @@
 -- Field numbers, and where their fields stand on the card. Assumes nothing.
-use Prim.Native.Nat.{ℕ, suc, _-_, _<_}
+use Prim.Native.Nat.{suc, _<_}
 use native.Mathlib.Omega.{arith}
 use mathlib.Core.Path.{_≡_, sym, ap, subst, _∙_}
 use mathlib.Core.Bool.{true, false}
@@ -8,8 +8,6 @@ use lib.IntN.{ℤ, pos, natAbs}
 use lib.Signed.{nonNeg}
 use mir.Syntax.{w64}
 use mir.Val.{Fits, SFits}
-use borrow.Author.Tests.{le-leb}
-use Rattle.exact.specs.Range.{between}
 use Rattle.exact.proofs.Machine.{between-nat, abs-word}
 use Rattle.card.specs.declared.Field.the-variants.{Empty}
 use Rattle.card.specs.declared.Card.{Card}
@@ -34,12 +32,3 @@ module _ (f : ℤ) (e : isField f ≡ true) where
 pub no-field : (f : ℤ) → isField f ≡ false → (c : Card) → Empty ≡ fieldOf c f
 unfolding fieldOf
 no-field f e c = rw e
-
--- each place is a field's
-pub at-place : (c : Card) (i : ℕ) → i < fieldCount → fieldAt c i ≡ fieldOf c (pos (suc i))
-unfolding fieldOf between
-at-place c i h =
-    let l = le-leb 1 (suc i) (omega arith) in
-    let m = le-leb (suc i) fieldCount h in
-    let p : i ≡ suc i - 1 = omega arith in
-    rw (l, m) (ap (fieldAt c) p)

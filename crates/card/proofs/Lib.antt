@@ -4,7 +4,6 @@ pub mod UnreadNeverConfirmed
 pub mod ShotNumbersWereReadOut
 pub mod HeldNumbersAreSmall
 pub mod ReadingsAreShort
-pub mod AllConfirmed
 pub mod Answers
 pub mod Clash
 pub mod FieldNumbers

@@ -1,5 +1,5 @@
--- What one call does to a field: a hearing makes it heard, a reading makes a heard field read, a confirming makes a read field confirmed, and
--- any other call leaves it. Assumes nothing.
+-- What one call does to a field: a hearing makes it heard, a reading turns heard into read, a confirming read into confirmed, and any other
+-- call leaves it. Assumes nothing.
 use Prim.Native.Nat.{ℕ, suc}
 use native.Mathlib.Omega.{arith}
 use mathlib.Core.Path.{_≡_, refl, sym, ap, subst, _∙_}
@@ -85,7 +85,7 @@ module _ (c : Card) (g : ℤ) where
     read-none : (f : ℤ) → NothingHeard f (read g buffer place ∷ [])
     read-none f = not-heard f _ (λ n e. clash (cc))
 
-    -- an accepted reading makes a heard field read; a field that is read again keeps its state
+    -- an accepted reading turns heard into read; a field that is read again keeps its state
     read-effect : (s : Field) → s ≡ fieldOf c g → isHeld s ≡ true → refusal c (read g buffer place) ≡ 0
         → bufferAfter c g buffer place ≡ over buffer place (text (numberIn s)) → Effect c g (read g buffer place) (readState s)
     read-effect Empty k h r b = clash (cc)

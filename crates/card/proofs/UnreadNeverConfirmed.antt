@@ -1,4 +1,4 @@
--- A NUMBER THAT REPLACED THE ONE READ OUT IS NEVER CONFIRMED UNREAD. From any card: after an accepted hearing for field f, as long as no
+-- A NUMBER HEARD ANEW IS NEVER CONFIRMED UNREAD. From any card: after an accepted hearing for field f, as long as no
 -- reading of f is accepted, f does not stand confirmed, with any number. Assumes nothing.
 use mathlib.Core.Path.{_≡_, refl, sym, ap, _∙_}
 use mathlib.Core.Logic.{_≢_}

@@ -52,7 +52,7 @@ writtenOut k c = record { refusal = 0; length = k; card = c }
 abbrev pub notWritten : Card → ℕ → ReadValues
 notWritten c k = record { refusal = k; length = 0; card = c }
 
--- HEARING. A number from -9,999,999 to 9,999,999 is put into the field as heard, whatever stood there
+-- HEARING puts a number of at most seven digits into a field, which is heard from then on; what stood there is gone
 abbrev pub largest : ℕ
 largest = 9999999
 

@@ -10,7 +10,7 @@ use Rattle.card.specs.declared.Field.the-variants.{Empty, Heard, Read, C
 use Rattle.card.specs.declared.Slot.{Slot}
 use Rattle.card.specs.declared.Card.{Card}
 
--- THE STATES of a field. All but empty hold a number
+-- THE STATES of a field. Each holds a number, empty aside
 abbrev pub isHeld : Field → Bool
 isHeld Empty = false
 isHeld (Heard z) = true
@@ -70,6 +70,6 @@ put c i f = record { slots = set (c .slots) i (slot f) }
 abbrev pub Full : Card → Type 0
 Full c = length (c .slots) ≡ fieldCount
 
--- every field is empty, but for DUT1, which is confirmed as 0
+-- DUT1 stands confirmed as 0, and every other field is empty
 abbrev pub freshCard : Card
 freshCard = put (record { slots = replicate fieldCount (slot Empty) }) (placeOf DUT1) (Confirmed (pos 0))

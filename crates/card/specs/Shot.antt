@@ -1,81 +1,57 @@
--- What a shot from a card works on (document 01, refusal 1): the numbers of all fields where every field is confirmed. Definitions; assumes
+-- What a shot from a card works on (document 01, refusal 1): the numbers of all fields, where every field is confirmed. Definitions; assumes
 -- nothing.
 use Prim.Native.Nat.{ℕ, zero, suc}
 use mathlib.Core.Bool.{Bool, true, _&&_}
-use mathlib.Core.List.{List, [], _∷_}
+use mathlib.Core.List.{List, [], _∷_, map}
 use lib.IntN.{ℤ, pos}
-use lib.ListN.{getD}
-use Rattle.refusal.specs.Numbers.{numberOf}
+use lib.ListN.{getD, replicate}
+use Rattle.refusal.specs.Numbers.{verdictNumber}
 use Rattle.refusal.specs.Tests.{Test, test, decided}
+use Rattle.card.specs.declared.Field.{Field}
 use Rattle.card.specs.declared.Card.{Card}
-use Rattle.card.specs.declared.Numbers.{Numbers}
 use Rattle.card.specs.declared.ConfirmedNumbers.{ConfirmedNumbers}
-use Rattle.card.specs.declared.ConfirmedNumbers.the-variants.{All, Refused}
-use Rattle.card.specs.Fields.{isConfirmed, numberIn, fieldCount, placeOf, fieldOf}
+use Rattle.card.specs.Fields.{isConfirmed, numberIn, fieldCount, placeOf, fieldAt}
 
--- the numbers of the fields, by document 01's table
-abbrev pub numbersOf : Card → Numbers
-numbersOf c = record {
-  year = numberIn (fieldOf c (pos 1));
-  month = numberIn (fieldOf c (pos 2));
-  day = numberIn (fieldOf c (pos 3));
-  hour = numberIn (fieldOf c (pos 4));
-  minute = numberIn (fieldOf c (pos 5));
-  millisecond = numberIn (fieldOf c (pos 6));
-  dut1 = numberIn (fieldOf c (pos 7));
-  latitude = numberIn (fieldOf c (pos 8));
-  longitude = numberIn (fieldOf c (pos 9));
-  body = numberIn (fieldOf c (pos 10));
-}
+-- the k fields from place i on, in order; and so all fields of the card
+unfoldable pub fieldsFrom : Card → ℕ → ℕ → List Field
+fieldsFrom c i zero = []
+fieldsFrom c i (suc k) = fieldAt c i ∷ fieldsFrom c (suc i) k
 
--- the numbers in the order of the fields, and the one among them that is field f's
-abbrev pub inOrder : Numbers → List ℤ
-inOrder n =
-    n .year ∷ n .month ∷ n .day ∷ n .hour ∷ n .minute ∷ n .millisecond ∷ n .dut1 ∷ n .latitude ∷ n .longitude ∷ n .body ∷ []
+abbrev pub fieldsOf : Card → List Field
+fieldsOf c = fieldsFrom c 0 fieldCount
 
-abbrev pub numberFor : Numbers → ℤ → ℤ
-numberFor n f = getD (inOrder n) (placeOf f) (pos 0)
+-- their numbers in the order of the fields, and the one among such numbers that is field f's
+abbrev pub numbersIn : Card → List ℤ
+numbersIn c = map numberIn (fieldsOf c)
 
--- whether the fields 1 to k are confirmed
-unfoldable pub confirmedTo : ℕ → Card → Bool
-confirmedTo zero c = true
-confirmedTo (suc k) c = confirmedTo k c && isConfirmed (fieldOf c (pos (suc k)))
+abbrev pub numberFor : List ℤ → ℤ → ℤ
+numberFor numbers f = getD numbers (placeOf f) (pos 0)
 
-unfoldable pub allConfirmed : Card → Bool
-allConfirmed c = confirmedTo fieldCount c
+-- whether they are all confirmed
+unfoldable pub everyConfirmed : List Field → Bool
+everyConfirmed [] = true
+everyConfirmed (f ∷ fs) = isConfirmed f && everyConfirmed fs
+
+abbrev pub allConfirmed : Card → Bool
+allConfirmed c = everyConfirmed (fieldsOf c)
 
 -- what a shot from a card tests before it tests the numbers
 abbrev pub cardTests : Card → List Test
 cardTests c = test (allConfirmed c) 1 ∷ []
 
--- the refusal number, 0 where there is none, and the numbers, ten zeros where it is refused
+-- the refusal number, 0 where there is none, and the numbers, all of them 0 where it is refused
 pub record ConfirmedValues : Type 0 where
   pub refusal : ℕ
-  pub numbers : Numbers
+  pub numbers : List ℤ
 
-abbrev pub zeros : Numbers
-zeros = record {
-  year = pos 0;
-  month = pos 0;
-  day = pos 0;
-  hour = pos 0;
-  minute = pos 0;
-  millisecond = pos 0;
-  dut1 = pos 0;
-  latitude = pos 0;
-  longitude = pos 0;
-  body = pos 0;
-}
-
-abbrev pub given : Numbers → ConfirmedValues
-given n = record { refusal = 0; numbers = n }
+abbrev pub given : List ℤ → ConfirmedValues
+given numbers = record { refusal = 0; numbers = numbers }
 
 abbrev pub withheld : ℕ → ConfirmedValues
-withheld k = record { refusal = k; numbers = zeros }
+withheld k = record { refusal = k; numbers = replicate fieldCount (pos 0) }
 
 abbrev pub confirmedValues : ConfirmedNumbers → ConfirmedValues
-confirmedValues (All n) = given n
-confirmedValues (Refused r) = withheld (numberOf r)
+confirmedValues r = record { refusal = verdictNumber (r .verdict); numbers = r .numbers }
 
 abbrev pub confirmedNumbers : Card → ConfirmedValues
-confirmedNumbers c = decided (cardTests c) (given (numbersOf c)) withheld
+confirmedNumbers c = decided (cardTests c) (given (numbersIn c)) withheld

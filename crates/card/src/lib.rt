@@ -1,9 +1,6 @@
 // The card of spoken fields (document 01, "The card"). A number counts only after it was heard, read out and confirmed.
 // The calls take a card by value and answer the card afterwards; a refused call answers the card as it was.
-mod places;
-
 use digits::Written;
-pub use places::FIELDS;
 use refusal::Refusal;
 use refusal::Verdict;
 ghost use mathlib.Core.Path.{_≡_};
@@ -14,6 +11,12 @@ ghost use Rattle.refusal.specs.Numbers.{numberOf};
 ghost use Rattle.card.specs.Fields.{isHeld, numberIn, fieldCount, isField, placeOf, fieldAt, fieldOf, put, freshCard};
 ghost use Rattle.card.specs.Calls.{valuesOf, accepted, refused, readValuesOf, writtenOut, notWritten, hearing, confirming, readState, reading, bufferAfter};
 ghost use Rattle.card.specs.Shot.{confirmedValues, confirmedNumbers};
+
+// How many fields a card has.
+pub const FIELDS: usize = 10;
+
+// Where DUT1 stands among them: one less than its number.
+const DUT1: usize = 6;
 
 // The largest magnitude of a number that can be heard.
 const LARGEST: i64 = 9_999_999;
@@ -54,28 +57,14 @@ pub struct ReadAnswer {
     pub card: Card,
 }
 
-// The numbers of a card whose fields are all confirmed, in the units of document 01's table.
-pub struct Numbers {
-    pub year: i64,
-    pub month: i64,
-    pub day: i64,
-    pub hour: i64,
-    pub minute: i64,
-    pub millisecond: i64,
-    pub dut1: i64,
-    pub latitude: i64,
-    pub longitude: i64,
-    pub body: i64,
+// What a shot from a card works on: where every field is confirmed, the numbers in the order of the fields, in the units of document 01's
+// table; else refusal 1, and zeros.
+pub struct ConfirmedNumbers {
+    pub verdict: Verdict,
+    pub numbers: [i64; FIELDS],
 }
 
-// What a shot from a card works on.
-pub enum ConfirmedNumbers {
-    All(Numbers),
-    // Refusal 1: some field is not confirmed.
-    Refused(Refusal),
-}
-
-// A fresh card: every field is empty, but for DUT1, which is confirmed as 0.
+// A fresh card: DUT1 stands confirmed as 0, and every other field is empty.
 pub fn fresh() -> Card
     ensures { λ r. ⌜ r ≡ freshCard ⌝ }
 {
@@ -83,7 +72,7 @@ pub fn fresh() -> Card
         field: Field::Empty,
     };
     let mut slots = [empty; FIELDS];
-    slots[places::DUT1] = Slot {
+    slots[DUT1] = Slot {
         field: Field::Confirmed(0),
     };
     Card { slots: slots }
@@ -102,7 +91,7 @@ pub fn hear(card: Card, field: i64, number: i64) -> Answer
     accepted(put(card, place_of(field), Field::Heard(number)))
 }
 
-// Reads a field out: writes its text from a place of the buffer on, and makes a heard field read. Refusals 9, 10, 11. The range of the
+// Reads a field out: writes its text from a place of the buffer on; a heard field is read from then on. Refusals 9, 10, 11. The range of the
 // number tells a caller how much room is always enough.
 pub fn read(card: Card, field: i64, buf: &mut [u8], place: usize) -> ReadAnswer
     ensures { λ r. ⌜ readValuesOf r ≡ reading card field (now (buf .entry)) place ⌝ }
@@ -151,48 +140,20 @@ pub fn field_of(card: Card, field: i64) -> Field
 pub fn confirmed_numbers(card: Card) -> ConfirmedNumbers
     ensures { λ r. ⌜ confirmedValues r ≡ confirmedNumbers card ⌝ }
 {
-    let Field::Confirmed(year) = field_at(card, places::YEAR) else {
-        return ConfirmedNumbers::Refused(Refusal::NotConfirmed);
-    };
-    let Field::Confirmed(month) = field_at(card, places::MONTH) else {
-        return ConfirmedNumbers::Refused(Refusal::NotConfirmed);
-    };
-    let Field::Confirmed(day) = field_at(card, places::DAY) else {
-        return ConfirmedNumbers::Refused(Refusal::NotConfirmed);
-    };
-    let Field::Confirmed(hour) = field_at(card, places::HOUR) else {
-        return ConfirmedNumbers::Refused(Refusal::NotConfirmed);
-    };
-    let Field::Confirmed(minute) = field_at(card, places::MINUTE) else {
-        return ConfirmedNumbers::Refused(Refusal::NotConfirmed);
-    };
-    let Field::Confirmed(millisecond) = field_at(card, places::MILLISECOND) else {
-        return ConfirmedNumbers::Refused(Refusal::NotConfirmed);
-    };
-    let Field::Confirmed(dut1) = field_at(card, places::DUT1) else {
-        return ConfirmedNumbers::Refused(Refusal::NotConfirmed);
-    };
-    let Field::Confirmed(latitude) = field_at(card, places::LATITUDE) else {
-        return ConfirmedNumbers::Refused(Refusal::NotConfirmed);
-    };
-    let Field::Confirmed(longitude) = field_at(card, places::LONGITUDE) else {
-        return ConfirmedNumbers::Refused(Refusal::NotConfirmed);
-    };
-    let Field::Confirmed(body) = field_at(card, places::BODY) else {
-        return ConfirmedNumbers::Refused(Refusal::NotConfirmed);
-    };
-    ConfirmedNumbers::All(Numbers {
-        year: year,
-        month: month,
-        day: day,
-        hour: hour,
-        minute: minute,
-        millisecond: millisecond,
-        dut1: dut1,
-        latitude: latitude,
-        longitude: longitude,
-        body: body,
-    })
+    let mut numbers = [0; FIELDS];
+    for i in 0..FIELDS {
+        let Field::Confirmed(number) = field_at(card, i) else {
+            return ConfirmedNumbers {
+                verdict: Verdict::Refused(Refusal::NotConfirmed),
+                numbers: [0; FIELDS],
+            };
+        };
+        numbers[i] = number;
+    }
+    ConfirmedNumbers {
+        verdict: Verdict::Accepted,
+        numbers: numbers,
+    }
 }
 
 // Whether a field has this number.

@@ -4,9 +4,8 @@ mod output;
 mod words;
 
 use card::Card;
-use card::ConfirmedNumbers;
-use card::Numbers;
 use libc::STDIN_FILENO;
+use refusal::Verdict;
 
 // The longest buffer that a reading is given.
 const LONGEST: usize = 64;
@@ -79,25 +78,12 @@ fn confirm(card: Card, arguments: &[u8]) -> Card {
 
 // A shot's angles are not worked here: only whether its numbers are all confirmed, and which they are.
 fn shot(card: Card) -> Card {
-    match card::confirmed_numbers(card) {
-        ConfirmedNumbers::All(numbers) => {
-            output::natural(0);
-            shot_numbers(numbers);
-        }
-        ConfirmedNumbers::Refused(refusal) => output::refusal_number(refusal),
+    let answer = card::confirmed_numbers(card);
+    let verdict = answer.verdict;
+    output::verdict_number(verdict);
+    if let Verdict::Accepted = verdict {
+        let numbers = answer.numbers;
+        output::integers(numbers);
     }
     card
-}
-
-fn shot_numbers(n: Numbers) {
-    output::integer(n.year);
-    output::integer(n.month);
-    output::integer(n.day);
-    output::integer(n.hour);
-    output::integer(n.minute);
-    output::integer(n.millisecond);
-    output::integer(n.dut1);
-    output::integer(n.latitude);
-    output::integer(n.longitude);
-    output::integer(n.body);
 }

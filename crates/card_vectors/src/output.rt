@@ -28,7 +28,7 @@ pub fn refusal_and_length(reading: Reading) {
     }
 }
 
-pub fn refusal_number(refusal: Refusal) {
+fn refusal_number(refusal: Refusal) {
     natural(refusal::number_of(refusal));
 }
 
@@ -61,8 +61,15 @@ fn state(letter: &[u8], n: i64) {
     signed(n);
 }
 
+// Each field's number, in the order of the fields.
+pub fn integers(numbers: [i64; card::FIELDS]) {
+    for i in 0..card::FIELDS {
+        integer(numbers[i]);
+    }
+}
+
 // A number and a space.
-pub fn integer(n: i64) {
+fn integer(n: i64) {
     signed(n);
     io::write_all(STDOUT_FILENO, b" ");
 }

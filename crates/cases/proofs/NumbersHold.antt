@@ -1,16 +1,15 @@
 -- THE STATEMENT: every row of the table holds. antt computes the days, the instants and the sines; an angle is the largest that passes, which two tests show.
 -- Assumes nothing.
 use mathlib.Core.Path.{_≡_, refl, ap}
-use mathlib.Core.Bool.{true, false}
-use Prim.Native.Nat.{ℕ, suc, _+_, _<_}
+use Prim.Native.Nat.{ℕ, _+_, _<_}
 use lib.Dec.{lit<}
-use lib.IntN.{ℤ, pos}
+use lib.IntN.{pos}
 use Rattle.exact.specs.Angle.{Q, rest, reduced}
-use Rattle.exact.specs.Century.{century}
 use Rattle.exact.specs.Division.{floorDiv, nearestℕ}
 use Rattle.exact.specs.Range.{between}
 use Rattle.calendar.specs.Date.{leapYear, monthLength, yearDays, monthDays, dayCount, isDate}
-use Rattle.calendar.specs.Time.{leapSecondDay, lastMillisecond, isTime, dayMillisecond, isDut1, sinceNoon, instant, millionths, instantOf}
+use Rattle.calendar.specs.Time.{leapSecondDay, lastMillisecond, isTime, dayMillisecond, isDut1, sinceNoon, instant, instantOf}
+use Rattle.epoch.specs.Epoch.{millionths}
 use Rattle.sine.specs.Polynomial.{arc, whole, polyDen, cofactor, term, polyNum}
 use Rattle.sine.specs.Sine.{entry, sinQuadrant, Sin, Cos}
 use Rattle.sine.specs.Angle.{passes, first, angle}

@@ -5,7 +5,7 @@ use mathlib.Core.List.{List, [], _∷_}
 use Prim.Native.Nat.{ℕ}
 use lib.IntN.{ℤ, pos}
 use Rattle.calendar.specs.Date.{dayCount}
-use Rattle.calendar.specs.Time.{InstantValues, instantOf}
+use Rattle.calendar.specs.Time.{instantOf}
 use Rattle.calendar.specs.declared.CivilTime.{CivilTime}
 use Rattle.sine.specs.Sine.{Sin}
 use Rattle.sine.specs.Angle.{angle}
@@ -29,8 +29,8 @@ table =
     ∷ row (pos (dayCount 2000 1 1)) (pos 36525)
     ∷ row (pos (dayCount 2049 12 31)) (pos 54787)
     -- N, q at 2000-01-01 0h, DUT1 0
-    ∷ row (instantOf (midnight 2000 1 1) .n) (pos 3155716800000)
-    ∷ row (instantOf (midnight 2000 1 1) .q) (pos 999986)
+    ∷ row (instantOf (midnight 2000 1 1) .epochs .universal .n) (pos 3155716800000)
+    ∷ row (instantOf (midnight 2000 1 1) .epochs .universal .q) (pos 999986)
     -- 2000-02-29 is a date; 2001-02-29 gives refusal 2
     ∷ row (pos (instantOf (midnight 2000 2 29) .refusal)) (pos 0)
     ∷ row (pos (instantOf (midnight 2001 2 29) .refusal)) (pos 2)

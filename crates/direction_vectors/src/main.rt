@@ -3,16 +3,21 @@
 // sidereal time and s. The answer: of Polaris p, right ascension, declination, ζ, z, θ, the catalogue's direction and that before aberration; then
 // the direction, (x', east, z), up and north; then the refusal, or 0 with azimuth, zenith angle and hour angle. A number that is none of these is
 // answered by an empty line.
+use epoch::Epoch;
 use horizon::Sighting;
 use rotation::Direction;
 use sine::SineTable;
+use site::Located;
+use site::Place;
+use site::Site;
 ghost use mathlib.Core.Path.{_≡_};
 ghost use Prim.Native.Nat.{_+_, _*_, _≤_, _<_, _^_};
 ghost use lib.IntN.{natAbs};
 ghost use Rattle.exact.specs.Angle.{turn};
 ghost use Rattle.sine.specs.Sine.{entries};
 ghost use Rattle.rotation.specs.Length.{squaredLength, reach, growth};
-ghost use Rattle.calendar.specs.Time.{InstantRange};
+ghost use Rattle.epoch.specs.Sizes.{InSpan};
+ghost use Rattle.site.specs.Sizes.{Within};
 
 // More lines than any run has.
 const LINES: u64 = 1_000_000;
@@ -20,9 +25,7 @@ const LINES: u64 = 1_000_000;
 // A component of a line of six is at most so large.
 const SIDE: u64 = 800_000_000;
 
-// No field and no angle is as large.
-const FIELD_END: u64 = 16_777_216;
-
+// No angle of a line of ten is as large.
 const ANGLE_END: u64 = 1_099_511_627_776;
 
 // The first instant and the last that a shot accepts.
@@ -47,34 +50,28 @@ fn write_sighting(s: Sighting) {
     }
 }
 
-fn write_sight(t: &SineTable, d: Direction, sidereal: u64, latitude: i64, longitude: i64)
-    requires { ⌜ (now t ≡ entries) × (squaredLength d + 2 * growth ≤ reach) × (sidereal < turn) × (natAbs latitude < 2 ^ 40) × (natAbs longitude < 2 ^ 40) ⌝ }
+fn write_sight(t: &SineTable, d: Direction, sidereal: u64, place: Place)
+    requires { ⌜ (now t ≡ entries) × (squaredLength d + 2 * growth ≤ reach) × (sidereal < turn) × Within place ⌝ }
 {
-    let s = horizon::sight(t, d, sidereal, latitude, longitude);
+    let s = horizon::sight(t, d, sidereal, place);
+    let m = horizon::to_meridian(t, d, sidereal, place.longitude);
+    let h = horizon::to_horizon(t, m, place.latitude);
     vectors::write_numbers(&d);
-    let m = horizon::to_meridian(t, d, sidereal, longitude);
     vectors::write_numbers(&m);
-    let h = horizon::to_horizon(t, m, latitude);
     vectors::write_numbers(&[h[0], h[2]]);
     vectors::write_space();
     write_sighting(s);
 }
 
-// The units of a field of 0.1″.
-fn units(field: i64) -> i64
-    requires { ⌜ natAbs field < 2 ^ 24 ⌝ }
-    ensures { λ r. ⌜ natAbs r < 2 ^ 40 ⌝ }
-{
-    field * 1000
-}
-
 fn answer_at(t: &SineTable, d: Direction, sidereal: u64, latitude: i64, longitude: i64)
     requires { ⌜ (now t ≡ entries) × (squaredLength d + 2 * growth ≤ reach) × (sidereal < turn) ⌝ }
 {
-    if exact::magnitude(latitude) < FIELD_END {
-        if exact::magnitude(longitude) < FIELD_END {
-            write_sight(t, d, sidereal, units(latitude), units(longitude));
-        }
+    let site = Site {
+        latitude: latitude,
+        longitude: longitude,
+    };
+    if let Located::At(place) = site::place_of(site) {
+        write_sight(t, d, sidereal, place);
     }
 }
 
@@ -95,55 +92,40 @@ fn answer_sun(t: &SineTable, epsilon: i64, numbers: [i64; 16])
     requires { ⌜ now t ≡ entries ⌝ }
 {
     if exact::magnitude(epsilon) < ANGLE_END {
-        let d = rotation::from_ecliptic(t, exact::reduced(numbers[9]), epsilon);
+        let d = sun::direction(t, exact::reduced(numbers[9]), epsilon);
         let sidereal = exact::reduced(numbers[8]);
         answer_at(t, d, sidereal, numbers[2], numbers[3]);
     }
 }
 
-fn write_place(t: &SineTable, p: i64, obliquity: i64, nutation: i64, epsilon: i64)
-    requires { ⌜ (now t ≡ entries) × (natAbs p ≤ 2 ^ 20) × (natAbs nutation < 2 ^ 40) × (natAbs epsilon < 2 ^ 40) ⌝ }
-{
-    vectors::write_numbers(&[p, polaris::right_ascension(p), polaris::declination(p)]);
-    vectors::write_numbers(
-        &[
-            polaris::precession_zeta(p),
-            polaris::precession_z(p),
-            polaris::precession_theta(p),
-        ],
-    );
-    vectors::write_numbers(&polaris::catalogue(t, p));
-    vectors::write_numbers(&polaris::place_of_date(t, p, obliquity, nutation, epsilon));
-}
-
 fn polaris_direction(
     t: &SineTable,
-    n: i64,
+    e: Epoch,
     obliquity: i64,
     nutation: i64,
     epsilon: i64,
     g: u64,
 ) -> Direction
-    requires { ⌜ (now t ≡ entries) × InstantRange n × (natAbs nutation < 2 ^ 40) × (natAbs epsilon < 2 ^ 40) × (g < turn) ⌝ }
+    requires { ⌜ (now t ≡ entries) × InSpan e × (natAbs obliquity < 2 ^ 40) × (natAbs nutation < 2 ^ 40) × (natAbs epsilon < 2 ^ 40) × (g < turn) ⌝ }
     ensures { λ r. ⌜ squaredLength r + 2 * growth ≤ reach ⌝ }
 {
-    write_place(
-        t,
-        polaris::tropical_millionths(n),
-        obliquity,
-        nutation,
-        epsilon,
-    );
-    polaris::direction(t, n, obliquity, nutation, epsilon, g)
+    let d = polaris::direction(t, e, obliquity, nutation, epsilon, g);
+    let p = polaris::tropical_millionths(e);
+    let k = polaris::elements_of(p);
+    vectors::write_numbers(&[p, k.alpha, k.delta, k.zeta, k.z, k.theta]);
+    vectors::write_numbers(&polaris::catalogue(t, k.alpha, k.delta));
+    vectors::write_numbers(&polaris::place_of_date(t, k, obliquity, nutation, epsilon));
+    d
 }
 
-fn answer_polaris(t: &SineTable, n: i64, nutation: i64, epsilon: i64, numbers: [i64; 16])
-    requires { ⌜ (now t ≡ entries) × InstantRange n ⌝ }
+fn answer_polaris(t: &SineTable, e: Epoch, nutation: i64, epsilon: i64, numbers: [i64; 16])
+    requires { ⌜ (now t ≡ entries) × InSpan e ⌝ }
 {
     if exact::magnitude(nutation) < ANGLE_END {
         if exact::magnitude(epsilon) < ANGLE_END {
+            let obliquity = exact::reduced(numbers[4]) as i64;
             let g = exact::reduced(numbers[7]);
-            let d = polaris_direction(t, n, numbers[4], nutation, epsilon, g);
+            let d = polaris_direction(t, e, obliquity, nutation, epsilon, g);
             let sidereal = exact::reduced(numbers[8]);
             answer_at(t, d, sidereal, numbers[2], numbers[3]);
         }
@@ -157,7 +139,7 @@ fn answer_body(t: &SineTable, n: i64, body: i64, nutation: i64, epsilon: i64, nu
         answer_sun(t, epsilon, numbers);
     } else if FIRST <= n {
         if n <= LAST {
-            answer_polaris(t, n, nutation, epsilon, numbers);
+            answer_polaris(t, epoch::epoch_of(n), nutation, epsilon, numbers);
         }
     }
 }

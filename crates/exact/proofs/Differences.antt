@@ -5,7 +5,7 @@
 --   * A term that is no variable, as `floorDiv z d`, is made one: a helper `go : (z q : ℤ) → ..`, called at `go z (floorDiv z d)`.
 --   * Write `(a +ℤ b) ≤ℤ c` with its parentheses: `_≤ℤ_` and `_<ℤ_` bind tighter than `_+ℤ_` and `_*ℤ_`.
 --   * `omega` multiplies out up to 64 monomials: products of three variables pass, of four do not. For those there is `Ring`.
---   * An order with a product of two variables wants its factor handed over: `simp zs (λ h. omega (arith, mul-le-mul-left d h))`, as `*-mono` of `Laws`.
+--   * An order with a product of two variables wants its factor handed over: `simp zs (λ h. omega (arith, mul-le-mul-left d h))`, as `*-mono` of `Integers`.
 --   * A sum of absolute values, `natAbs a + natAbs b < n`, wants `simp (zs, abs-dif)`.
 use mathlib.Core.Path.{_≡_, refl, sym, ap, ap₂, _∙_, subst}
 use mathlib.Core.Logic.{_↔_}
@@ -14,9 +14,9 @@ use Prim.Native.Nat.{ℕ, zero, suc, _+_, _*_, _-_, _^_, _≤_, _<_}
 use native.Mathlib.Omega.{arith}
 use lib.Dec.{T, ltb, ltb→lt, lt→ltb, nltb→le, leb→le, le→leb}
 use lib.Arith.{le→nltb}
-use lib.IntN.{ℤ, pos, negsuc, subℕ, negℤ, natAbs, _+ℤ_, _-ℤ_, _*ℤ_}
+use lib.IntN.{ℤ, pos, negsuc, subℕ, negℤ, natAbs, _+ℤ_, _*ℤ_}
 use lib.Signed.{leZ, ltZ, _≤ℤ_, _<ℤ_, leZ-yes, ltZ-yes}
-use mir.Syntax.{Width, w64}
+use mir.Syntax.{Width}
 use mir.Val.{SFits, hbits}
 
 -- a − b

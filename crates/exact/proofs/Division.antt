@@ -1,9 +1,9 @@
 -- The laws of `floorDiv` and `nearest`: what they are, that nothing else is, and how they move with the number divided.
-use mathlib.Core.Path.{_≡_, refl, sym, ap, ap₂, subst, _∙_}
-use Prim.Native.Nat.{ℕ, _+_, _*_, _≤_, _<_}
+use mathlib.Core.Path.{_≡_, refl, sym, ap₂, subst, _∙_}
+use Prim.Native.Nat.{ℕ, _+_, _*_, _/_, _%_, _≤_, _<_}
 use native.Mathlib.Nat.{mul-comm, div-add-mod, mod-lt, mul-pos, le-of-suc-le-suc, div-lt-iff-lt-mul}
 use native.Mathlib.Omega.{arith}
-use lib.IntN.{ℤ, pos, negsuc, natAbs, _+ℤ_, _*ℤ_}
+use lib.IntN.{ℤ, pos, negsuc, natAbs, _+ℤ_, _-ℤ_, _*ℤ_}
 use lib.Signed.{_≤ℤ_, _<ℤ_, ≤ℤ-refl}
 use Rattle.exact.specs.Division.{floorDiv, nearest, nearestℕ}
 use Rattle.exact.proofs.Differences.{split, zs}
@@ -55,20 +55,15 @@ unfolding floorDiv
 floor-abs (pos a) d k h b = le-of-suc-le-suc (div-lt-iff-lt-mul h .1 (omega arith))
 floor-abs (negsuc a) d k h b = div-lt-iff-lt-mul h .1 b
 
--- in two steps
-pub floor-floor : (z : ℤ) (a b : ℕ) → 0 < a → 0 < b → floorDiv (floorDiv z a) b ≡ floorDiv z (a * b)
-floor-floor z a b ha hb =
-    let p = floorDiv z a in
-    let q = floorDiv p b in
-    floor-is z q (a * b) (mul-pos ha hb)
-    (low z p q (floor-low z a ha) (*-mono a (pos b *ℤ q) p (floor-low p b hb)))
-    (high z p q (floor-high z a ha) (*-mono a (p +ℤ pos 1) (pos b *ℤ q +ℤ pos b) (<-next p (pos b *ℤ q +ℤ pos b) (floor-high p b hb))))
+-- with k multiples of d more it is natural, and they are taken away from the quotient
+pub floor-offset : (z k : ℤ) (m d : ℕ) → 0 < d → pos m ≡ z +ℤ k *ℤ pos d → pos (m / d) -ℤ k ≡ floorDiv z d
+floor-offset z k m d h e =
+    let g = go z k m (m / d) (m % d) e (div-add-mod m d) (mod-lt m h) in
+    floor-is z (pos (m / d) -ℤ k) d h (g .0) (g .1)
   where
-    low : (z p q : ℤ) → (pos a *ℤ p) ≤ℤ z → (pos a *ℤ (pos b *ℤ q)) ≤ℤ (pos a *ℤ p) → (pos (a * b) *ℤ q) ≤ℤ z
-    low z p q = rw (split z, split p, split q) (simp zs (omega arith))
-
-    high : (z p q : ℤ) → z <ℤ (pos a *ℤ p +ℤ pos a) → (pos a *ℤ (p +ℤ pos 1)) ≤ℤ (pos a *ℤ (pos b *ℤ q +ℤ pos b)) → z <ℤ (pos (a * b) *ℤ q +ℤ pos (a * b))
-    high z p q = rw (split z, split p, split q) (simp zs (omega arith))
+    go : (z k : ℤ) (m q r : ℕ) → pos m ≡ z +ℤ k *ℤ pos d → d * q + r ≡ m → r < d
+        → ((pos d *ℤ (pos q -ℤ k)) ≤ℤ z) × (z <ℤ (pos d *ℤ (pos q -ℤ k) +ℤ pos d))
+    go z k m q r = rw (split z, split k) (simp zs (omega arith))
 
 -- ---- to the nearest: at most half of d away
 two-pos : (d : ℕ) → 0 < d → 0 < 2 * d
@@ -92,6 +87,17 @@ nearest-is z q d h l u = floor-is (pos 2 *ℤ z +ℤ pos d) q (2 * d) (two-pos d
     go : (z q : ℤ) → (pos 2 *ℤ z) <ℤ (pos (2 * d) *ℤ q +ℤ pos d) → (pos 2 *ℤ z +ℤ pos d) <ℤ (pos (2 * d) *ℤ q +ℤ pos (2 * d))
     go z q = rw (split z, split q) (simp zs (omega arith))
 
+-- half of d more, rounded down, also of an odd d
+pub nearest-half : (z : ℤ) (d : ℕ) → 0 < d → floorDiv (z +ℤ pos (d / 2)) d ≡ nearest z d
+nearest-half z d h =
+    let w = z +ℤ pos (d / 2) in
+    let g = go z (floorDiv w d) (floor-low w d h) (floor-high w d h) in
+    nearest-is z (floorDiv w d) d h (g .0) (g .1)
+  where
+    go : (z q : ℤ) → (pos d *ℤ q) ≤ℤ (z +ℤ pos (d / 2)) → (z +ℤ pos (d / 2)) <ℤ (pos d *ℤ q +ℤ pos d)
+        → ((pos (2 * d) *ℤ q) ≤ℤ (pos 2 *ℤ z +ℤ pos d)) × ((pos 2 *ℤ z) <ℤ (pos (2 * d) *ℤ q +ℤ pos d))
+    go z q = rw (split z, split q) (simp zs (omega arith))
+
 -- ---- distances: z and w are at most k apart
 abbrev pub Within : ℤ → ℤ → ℕ → Type 0
 Within z w k = (z ≤ℤ (w +ℤ pos k)) × (w ≤ℤ (z +ℤ pos k))
@@ -103,17 +109,6 @@ nearest-error z d h = go (pos 2 *ℤ z) (pos (2 * d) *ℤ nearest z d) (nearest-
     go : (z w : ℤ) → w ≤ℤ (z +ℤ pos d) → z <ℤ (w +ℤ pos d) → Within w z d
     go z w = rw (split z, split w) (simp zs (omega arith))
 
--- a whole multiple of d more
-pub nearest-add : (z k : ℤ) (d : ℕ) → 0 < d → nearest (z +ℤ pos d *ℤ k) d ≡ nearest z d +ℤ k
-nearest-add z k d h =
-    sym (nearest-is (z +ℤ pos d *ℤ k) (nearest z d +ℤ k) d h (low z k (nearest z d) (nearest-low z d h)) (high z k (nearest z d) (nearest-high z d h)))
-  where
-    low : (z k q : ℤ) → (pos (2 * d) *ℤ q) ≤ℤ (pos 2 *ℤ z +ℤ pos d) → (pos (2 * d) *ℤ (q +ℤ k)) ≤ℤ (pos 2 *ℤ (z +ℤ pos d *ℤ k) +ℤ pos d)
-    low z k q = rw (split z, split k, split q) (simp zs (omega arith))
-
-    high : (z k q : ℤ) → (pos 2 *ℤ z) <ℤ (pos (2 * d) *ℤ q +ℤ pos d) → (pos 2 *ℤ (z +ℤ pos d *ℤ k)) <ℤ (pos (2 * d) *ℤ (q +ℤ k) +ℤ pos d)
-    high z k q = rw (split z, split k, split q) (simp zs (omega arith))
-
 -- numbers at most k·d apart are rounded to numbers at most k apart
 pub nearest-within : (z w : ℤ) (d k : ℕ) → 0 < d → Within z w (d * k) → Within (nearest z d) (nearest w d) k
 unfolding nearest
@@ -124,12 +119,6 @@ nearest-within z w d k h p = (
   where
     go : (z w : ℤ) → z ≤ℤ (w +ℤ pos (d * k)) → (pos 2 *ℤ z +ℤ pos d) ≤ℤ (pos 2 *ℤ w +ℤ pos d +ℤ pos (2 * d) *ℤ pos k)
     go z w = rw (split z, split w) (simp zs (omega arith))
-
-pub within-trans : (x y z : ℤ) (j k : ℕ) → Within x y j → Within y z k → Within x z (j + k)
-within-trans x y z j k = rw (split x, split y, split z) (simp zs (omega arith))
-
-pub within-add : (x y z w : ℤ) (j k : ℕ) → Within x y j → Within z w k → Within (x +ℤ z) (y +ℤ w) (j + k)
-within-add x y z w j k = rw (split x, split y, split z, split w) (simp zs (omega arith))
 
 -- a quotient between −k and k is rounded to a number between them
 pub nearest-abs : (z : ℤ) (d k : ℕ) → 0 < d → natAbs z ≤ d * k → natAbs (nearest z d) ≤ k

@@ -1,37 +1,18 @@
--- The laws of ℤ that `lib.IntN` and `lib.Signed` lack: the ring's, the order's, and bounds on absolute values.
+-- The laws of ℤ that `lib.IntN` and `lib.Signed` lack: the order's, and bounds on absolute values.
 use mathlib.Core.Path.{_≡_, refl}
-use Prim.Native.Nat.{ℕ, zero, suc, _+_, _*_, _≤_, _<_}
+use Prim.Native.Nat.{ℕ, zero, suc, _*_, _≤_, _<_}
 use native.Mathlib.Nat.{le-of-suc-le-suc, lt-of-mul-lt-mul-left, mul-le-mul-left, mul-le-mul}
 use native.Mathlib.Omega.{arith}
 use lib.IntN.{ℤ, pos, negsuc, negℤ, natAbs, _+ℤ_, _*ℤ_}
 use lib.Signed.{_≤ℤ_, _<ℤ_}
 use Rattle.exact.proofs.Differences.{split, zs}
 
--- ---- the ring
-pub *-assoc : (a b c : ℤ) → (a *ℤ b) *ℤ c ≡ a *ℤ (b *ℤ c)
-*-assoc a b c = rw (split a, split b, split c) (simp zs (omega arith))
-
-pub +-* : (a b c : ℤ) → (a +ℤ b) *ℤ c ≡ a *ℤ c +ℤ b *ℤ c
-+-* a b c = rw (split a, split b, split c) (simp zs (omega arith))
-
-pub *-+ : (a b c : ℤ) → a *ℤ (b +ℤ c) ≡ a *ℤ b +ℤ a *ℤ c
-*-+ a b c = rw (split a, split b, split c) (simp zs (omega arith))
-
-pub neg-* : (a b : ℤ) → negℤ a *ℤ b ≡ negℤ (a *ℤ b)
-neg-* a b = rw (split a, split b) (simp zs (omega arith))
-
 -- ---- the order
-pub ≤-trans : (a b c : ℤ) → a ≤ℤ b → b ≤ℤ c → a ≤ℤ c
-≤-trans a b c = rw (split a, split b, split c) (simp zs (omega arith))
-
 pub ≤-antisym : (a b : ℤ) → a ≤ℤ b → b ≤ℤ a → a ≡ b
 ≤-antisym a b = rw (split a, split b) (simp zs (omega arith))
 
 pub <-next : (a b : ℤ) → a <ℤ b → (a +ℤ pos 1) ≤ℤ b
 <-next a b = rw (split a, split b) (simp zs (omega arith))
-
-pub +-mono : (a b c d : ℤ) → a ≤ℤ b → c ≤ℤ d → (a +ℤ c) ≤ℤ (b +ℤ d)
-+-mono a b c d = rw (split a, split b, split c, split d) (simp zs (omega arith))
 
 pub *-mono : (d : ℕ) (x y : ℤ) → x ≤ℤ y → (pos d *ℤ x) ≤ℤ (pos d *ℤ y)
 *-mono d x y = rw (split x, split y) (simp zs (λ h. omega (arith, mul-le-mul-left d h)))
@@ -57,6 +38,3 @@ abs-*-le a b m n h k = rw (abs-* a b) (mul-le-mul h k)
 
 pub abs-*-lt : (a b : ℤ) (m n : ℕ) → natAbs a < m → natAbs b < n → natAbs (a *ℤ b) < m * n
 abs-*-lt a b m n h k = rw (abs-* a b) (omega (arith, mul-le-mul h k))
-
-pub abs-+-lt : (a b : ℤ) (m n : ℕ) → natAbs a ≤ m → natAbs b < n → natAbs (a +ℤ b) < m + n
-abs-+-lt a b m n = rw (split a, split b) (simp zs (omega arith))

@@ -1,4 +1,4 @@
--- Newton's step for a square root, on natural numbers: from any guess above 0 it lands at the root or above, and from a guess above the root it goes down.
+-- Newton's step for a square root, on natural numbers: from any guess above 0 it lands at the root or above.
 -- Assumes nothing.
 use mathlib.Core.Path.{_≡_}
 use Prim.Native.Nat.{ℕ, zero, suc, _+_, _*_, _-_, _/_, _≤_, _<_}
@@ -25,9 +25,6 @@ pub step-above : (x h : ℕ) → 0 < h → x < ((h + x / h) / 2 + 1) * ((h + x /
 step-above x h k =
     let below : x < suc (x / h) * h = div-lt-iff-lt-mul k .0 (lt-suc-self (x / h)) in
     omega (arith, mean (suc (x / h)) h ((h + x / h) / 2 + 1) (omega arith))
-
-pub step-below : (x h : ℕ) → x / h < h → (h + x / h) / 2 < h
-step-below x h l = omega arith
 
 -- where the quotient is not below the divisor, the square is at most x
 pub square-le : (x h : ℕ) → 0 < h → h ≤ x / h → h * h ≤ x

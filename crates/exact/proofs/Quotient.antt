@@ -1,20 +1,16 @@
--- The machine's quotient and remainder, which round toward zero: that they fit, what they are, and how the quotient rounded down comes of them.
-use mathlib.Core.Path.{_≡_, refl, sym, subst}
-use mathlib.Core.Bool.{true, false, true≢false}
-use Prim.Native.Nat.{ℕ, zero, suc, _/_, _%_, _≤_, _<_}
+-- The machine's quotient and remainder, which round toward zero: that they fit, and how what the quotient rounded down leaves comes of them.
+use mathlib.Core.Path.{_≡_}
+use Prim.Native.Nat.{ℕ, zero, suc, _/_, _≤_, _<_}
 use native.Mathlib.Nat.{div-add-mod, mod-lt, div-le-self, lt-of-le-of-lt}
 use native.Mathlib.Omega.{arith}
-use borrow.Author.Tests.{ltb-true}
-use lib.Dec.{T, ltb, ltb→lt}
+use lib.Dec.{ltb→lt}
 use lib.IntN.{ℤ, pos, negsuc, negℤ, natAbs, _+ℤ_, _-ℤ_, _*ℤ_}
-use lib.Signed.{mag, mag-rem, ltZ, quotZ, remZ, _≤ℤ_, _<ℤ_, ltZ-yes}
+use lib.Signed.{mag, mag-rem, quotZ, remZ, _≤ℤ_, _<ℤ_}
 use mir.Syntax.{Width}
 use mir.Val.{SFits, ofZ}
 use Rattle.exact.specs.Division.{floorDiv}
 use Rattle.exact.specs.Angle.{rest}
 use Rattle.exact.proofs.Differences.{split, zs}
-use Rattle.exact.proofs.Integers.{abs-neg}
-use Rattle.exact.proofs.Division.{floor-is}
 use Rattle.exact.proofs.Turn.{rest-of}
 
 -- a positive integer is a positive natural
@@ -43,41 +39,6 @@ quot-fits w a d f h = go a (positive d h) f
     go (pos a) (some n p) f = record { sfits = lt-of-le-of-lt (div-le-self a n) (f .sfits) }
     go (negsuc a) (some n p) f = record { sfits = lt-of-le-of-lt (mag-neg (suc a / n) a (div-le-self (suc a) n)) (f .sfits) }
 
--- by a literal: `quot-lit w64 a 32768 f refl`
-pub quot-lit : (w : Width) (a : ℤ) (n : ℕ) → SFits w a → ltb 0 n ≡ true → SFits w (quotZ a (pos n))
-quot-lit w a n f e = quot-fits w a (pos n) f (ltZ-yes (subst T (sym e) tt))
-
--- one less than it where something negative is left, and itself elsewhere, is the quotient rounded down
-neg-lt : (r : ℕ) → ltZ (negℤ (pos r)) (pos 0) ≡ true → 0 < r
-neg-lt zero e = absurd (omega (arith, ltb-true 0 0 e))
-neg-lt (suc r) e = omega arith
-
-neg-ge : (r : ℕ) → ltZ (negℤ (pos r)) (pos 0) ≡ false → r ≡ 0
-neg-ge zero e = refl
-neg-ge (suc r) e = absurd (true≢false e)
-
-pub quot-less : (a d : ℤ) → pos 0 <ℤ d → ltZ (remZ a d) (pos 0) ≡ true → quotZ a d -ℤ pos 1 ≡ floorDiv a (natAbs d)
-quot-less a d h = go a (positive d h)
-  where
-    go : (a : ℤ) {d : ℤ} → Positive d → ltZ (remZ a d) (pos 0) ≡ true → quotZ a d -ℤ pos 1 ≡ floorDiv a (natAbs d)
-    go (pos a) (some n p) e = absurd (omega (arith, ltb-true (a % n) 0 e))
-    go (negsuc a) (some n p) e =
-        let s = div-add-mod (suc a) n in
-        let m = mod-lt (suc a) p in
-        let l = neg-lt (suc a % n) e in
-        floor-is (negsuc a) (negℤ (pos (suc a / n)) -ℤ pos 1) n p (simp zs (omega arith)) (simp zs (omega arith))
-
-pub quot-same : (a d : ℤ) → pos 0 <ℤ d → ltZ (remZ a d) (pos 0) ≡ false → quotZ a d ≡ floorDiv a (natAbs d)
-unfolding floorDiv
-quot-same a d h = go a (positive d h)
-  where
-    go : (a : ℤ) {d : ℤ} → Positive d → ltZ (remZ a d) (pos 0) ≡ false → quotZ a d ≡ floorDiv a (natAbs d)
-    go (pos a) (some n p) e = refl
-    go (negsuc a) (some n p) e =
-        let s = div-add-mod (suc a) n in
-        let l = neg-ge (suc a % n) e in
-        floor-is (negsuc a) (negℤ (pos (suc a / n))) n p (simp zs (omega arith)) (simp zs (omega arith))
-
 pub rem-fits : (w : Width) (a d : ℤ) → SFits w a → SFits w (remZ a d)
 rem-fits w a d f = record { sfits = lt-of-le-of-lt (mag-rem a d) (f .sfits) }
 
@@ -87,7 +48,7 @@ floor-fits w (pos a) n f = record { sfits = lt-of-le-of-lt (div-le-self a n) (f 
 floor-fits w (negsuc a) n f = record { sfits = lt-of-le-of-lt (div-le-self a n) (f .sfits) }
 
 -- ---- what is left by the quotient toward zero: z = d·q + r, with r nearer to 0 than d
-pub rem-eq : (a : ℤ) (n : ℕ) → a ≡ pos n *ℤ quotZ a (pos n) +ℤ remZ a (pos n)
+rem-eq : (a : ℤ) (n : ℕ) → a ≡ pos n *ℤ quotZ a (pos n) +ℤ remZ a (pos n)
 rem-eq (pos a) n = let s = div-add-mod a n in simp zs (omega arith)
 rem-eq (negsuc a) n = let s = div-add-mod (suc a) n in simp zs (omega arith)
 
@@ -115,7 +76,3 @@ rem-same a n h l = rest-of a (quotZ a (pos n)) (remZ a (pos n)) n (rem-eq a n) l
   where
     high : (r : ℤ) → natAbs r < n → r <ℤ pos n
     high r = rw (split r) (simp zs (omega arith))
-
-pub abs-quot : (a : ℤ) (n : ℕ) → natAbs (quotZ a (pos n)) ≡ natAbs a / n
-abs-quot (pos a) n = refl
-abs-quot (negsuc a) n = abs-neg (suc a / n)

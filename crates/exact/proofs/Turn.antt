@@ -1,8 +1,8 @@
 -- The laws of reduction to a turn: a congruence, and the short way round.
 use mathlib.Core.Path.{_≡_, refl, sym, ap, _∙_}
 use mathlib.Core.Bool.{Bool, true, false}
-use Prim.Native.Nat.{ℕ, _+_, _*_, _-_, _≤_, _<_, min, max}
-use native.Mathlib.Nat.{le-refl}
+use Prim.Native.Nat.{ℕ, _+_, _*_, _-_, _/_, _%_, _≤_, _<_, min}
+use native.Mathlib.Nat.{le-refl, div-add-mod, mod-lt}
 use native.Mathlib.Omega.{arith}
 use lib.Dec.{lit<, ltb→lt}
 use lib.IntN.{ℤ, pos, negsuc, natAbs, _+ℤ_, _-ℤ_, _*ℤ_}
@@ -50,6 +50,13 @@ rest-unique z k r d l e =
 pub rest-of : (z k r : ℤ) (d : ℕ) → z ≡ pos d *ℤ k +ℤ r → pos 0 ≤ℤ r → r <ℤ pos d → r ≡ pos (rest z d)
 rest-of z k (pos r) d e l u = ap pos (rest-unique z k r d (ltb→lt r d (u .lt)) e)
 rest-of z k (negsuc r) d e l u = absurd (l .le)
+
+-- with k multiples of d more that make z natural
+pub rest-offset : (z k : ℤ) (m d : ℕ) → 0 < d → pos m ≡ z +ℤ k *ℤ pos d → m % d ≡ rest z d
+rest-offset z k m d h e = rest-unique z (pos (m / d) -ℤ k) (m % d) d (mod-lt m h) (go z k m (m / d) (m % d) e (div-add-mod m d))
+  where
+    go : (z k : ℤ) (m q r : ℕ) → pos m ≡ z +ℤ k *ℤ pos d → d * q + r ≡ m → z ≡ pos d *ℤ (pos q -ℤ k) +ℤ pos r
+    go z k m q r = rw (split z, split k) (simp zs (omega arith))
 
 -- ---- the angle in one turn
 turn-pos : 0 < turn

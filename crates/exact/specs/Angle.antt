@@ -1,7 +1,7 @@
--- Document 01, "Units and rounding": angles in units of 0.0001 second of arc, reduced to one turn.
+-- Document 01, "Units and rounding": angles, in units of 0.0001″, and their reduction to a turn.
 -- Assumes nothing.
 use mathlib.Core.List.{List}
-use Prim.Native.Nat.{ℕ, _-_, _*_, _<_, min, max}
+use Prim.Native.Nat.{ℕ, _-_, _<_, min, max}
 use lib.IntN.{ℤ, pos, natAbs, _-ℤ_, _*ℤ_}
 use lib.ListN.{getD}
 use Rattle.exact.specs.Division.{floorDiv}
@@ -22,11 +22,11 @@ rest z d = natAbs (z -ℤ pos d *ℤ floorDiv z d)
 unfoldable pub reduced : ℤ → ℕ
 reduced z = rest z turn
 
--- "the larger angle less the smaller"
+-- how far two angles lie from each other without passing 0
 abbrev pub apart : ℕ → ℕ → ℕ
 apart a b = max a b - min a b
 
--- 01's "short way between two reduced angles": "the smaller of two numbers: the larger angle less the smaller, and turn less that"
+-- 01's "short way": the distance of two reduced angles on the circle, by way of 0 or not, whichever is less
 unfoldable pub shortWay : ℕ → ℕ → ℕ
 shortWay a b = min (apart a b) (turn - apart a b)
 

@@ -1,4 +1,4 @@
--- Document 01, "Units and rounding": "Coefficients printed in degrees or seconds become the nearest whole unit, halves up."
+-- Document 01, "Units and rounding": printed coefficients, in whole units of an angle.
 -- Assumes nothing.
 use Prim.Native.Nat.{ℕ, _*_, _^_}
 use lib.IntN.{ℤ, pos, negℤ}
@@ -14,9 +14,15 @@ abbrev pub inUnits : ℕ → Decimal → ℤ
 inUnits units (plus digits places) = nearest (pos (units * digits)) (10 ^ places)
 inUnits units (minus digits places) = nearest (negℤ (pos (units * digits))) (10 ^ places)
 
--- a degree has 36,000,000 units of 0.0001″, a second of arc 10,000
+-- an hour of right ascension has 540,000,000 units of 0.0001″, a degree 36,000,000, a second of arc 10,000, a second of time 150,000
+abbrev pub hours : Decimal → ℤ
+hours = inUnits 540000000
+
 abbrev pub degrees : Decimal → ℤ
 degrees = inUnits 36000000
 
 abbrev pub arcSeconds : Decimal → ℤ
 arcSeconds = inUnits 10000
+
+abbrev pub timeSeconds : Decimal → ℤ
+timeSeconds = inUnits 150000

@@ -8,7 +8,7 @@ unfoldable pub floorDiv : ℤ → ℕ → ℤ
 floorDiv (pos a) d = pos (a / d)
 floorDiv (negsuc a) d = negsuc (a / d)
 
--- 01's "nearest": the floor of the exact quotient plus one half, z / d + 1/2 = (2·z + d) / (2·d)
+-- 01's "nearest": halves up, so the floor of z / d + 1/2 = (2·z + d) / (2·d)
 unfoldable pub nearest : ℤ → ℕ → ℤ
 nearest z d = floorDiv (pos 2 *ℤ z +ℤ pos d) (2 * d)
 

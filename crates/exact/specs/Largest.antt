@@ -9,6 +9,6 @@ unfoldable pub largest : (ℕ → Bool) → ℕ → ℕ
 largest p zero = 0
 largest p (suc n) = cond (p n) n (largest p n)
 
--- document 01, "The horizon": "the largest whole number whose square is at most x". None beyond x has.
+-- the root that document 01, "The horizon", takes of x: the largest h with h·h ≤ x. None beyond x has such a square.
 unfoldable pub root : ℕ → ℕ
 root x = largest (λ h. leb (h * h) x) (suc x)

@@ -2,15 +2,15 @@
 // square root. Document 01, "Units and rounding".
 ghost use mathlib.Core.Path.{_≡_};
 ghost use Prim.Native.Nat.{_+_, _*_, _<_, _≤_, _^_};
-ghost use lib.IntN.{pos, natAbs, _+ℤ_, _*ℤ_};
+ghost use lib.IntN.{pos, natAbs, _*ℤ_};
 ghost use lib.Signed.{_<ℤ_};
 ghost use Rattle.exact.specs.Division.{floorDiv, nearest};
 ghost use Rattle.exact.specs.Angle.{turn, reduced};
-ghost use Rattle.exact.specs.Century.{century, Divided};
+ghost use Rattle.exact.specs.Century.{century};
 ghost use Rattle.exact.specs.Largest.{root};
 ghost use Rattle.exact.specs.Range.{between};
 
-// A turn, in units of 0.0001 second of arc.
+// A turn, in units of 0.0001″.
 pub const TURN: i64 = 12_960_000_000;
 
 // A Julian century of 36,525 days, in milliseconds: document 01's C.
@@ -34,21 +34,22 @@ pub fn magnitude(x: i64) -> u64
     }
 }
 
-// a / d, rounded toward minus infinity.
+// a / d, rounded toward minus infinity. With so many multiples of d more a is natural, and they are taken away from the quotient: no
+// sign is tested, and a literal d makes their number a constant.
 pub fn floor_div(a: i64, d: i64) -> i64
-    requires { ⌜ pos 0 <ℤ d ⌝ }
+    requires { ⌜ (pos 0 <ℤ d) × (natAbs a + natAbs d ≤ 2 ^ 62) ⌝ }
     ensures { λ r. ⌜ r ≡ floorDiv a (natAbs d) ⌝ }
 {
-    let q = a / d;
-    if a % d < 0 { q - 1 } else { q }
+    let k = 4_611_686_018_427_387_904 / d;
+    ((a + k * d) as u64 / d as u64) as i64 - k
 }
 
-// The whole number nearest to a / d, a half rounded up.
+// The whole number nearest to a / d, a half rounded up: the floor with half of d more.
 pub fn nearest_div(a: i64, d: i64) -> i64
-    requires { ⌜ (pos 0 <ℤ d) × (natAbs a + natAbs d < 2 ^ 62) ⌝ }
+    requires { ⌜ (pos 0 <ℤ d) × (natAbs a + 2 * natAbs d ≤ 2 ^ 62) ⌝ }
     ensures { λ r. ⌜ r ≡ nearest a (natAbs d) ⌝ }
 {
-    floor_div(2 * a + d, 2 * d)
+    floor_div(a + d / 2, d)
 }
 
 // The angle a in one turn.
@@ -59,39 +60,42 @@ pub fn reduced(a: i64) -> u64
     if r < 0 { (r + TURN) as u64 } else { r as u64 }
 }
 
-// A digit of a long division: the quotient, and what is left.
-struct Digit {
-    quotient: i64,
-    left: i64,
-}
+// So many whole turns that any angle of at most 2^61 units is natural with them.
+const TURNS: i64 = 200_000_000 * TURN;
 
-// The next digit: r * 2^15 + c * k, divided by a century.
-fn divide(r: i64, c: i64, k: i64) -> Digit
-    requires { ⌜ (natAbs r < 2 ^ 45) × ((natAbs c < 2 ^ 45) × (natAbs k < 2 ^ 15)) ⌝ }
-    ensures { λ d. ⌜ Divided (r *ℤ pos 32768 +ℤ c *ℤ k) (d .quotient) (d .left) ⌝ }
+// The same of an angle of at most 2^61 units, without a test of the sign.
+pub fn reduced_bounded(a: i64) -> u64
+    requires { ⌜ natAbs a ≤ 2 ^ 61 ⌝ }
+    ensures { λ r. ⌜ (r ≡ reduced a) × (r < turn) ⌝ }
 {
-    let t = r * 32768 + c * k;
-    let q = floor_div(t, CENTURY);
-    Digit {
-        quotient: q,
-        left: t - CENTURY * q,
-    }
+    (a + TURNS) as u64 % TURN as u64
 }
 
-// c * n / CENTURY, rounded down, where the product may have 90 bits: a long division, with n in digits of 15 bits.
+// A millionth of a century, in milliseconds.
+const MILLIONTH: u64 = 3_155_760;
+
+// b * n / CENTURY, rounded down, for a natural b. With three centuries more n is a natural m, and the quotient is 3 * b more. As CENTURY
+// is 1,000,000 * MILLIONTH, m = q * MILLIONTH + r has the quotient (b * q + b * r / MILLIONTH) / 1,000,000, whose products fit.
+fn rest_per_century(b: u64, n: i64) -> i64
+    requires { ⌜ (b < century) × (natAbs n < 2 ^ 43) ⌝ }
+    ensures { λ r. ⌜ r ≡ floorDiv (pos b *ℤ n) century ⌝ }
+{
+    let m = (n + 3 * CENTURY) as u64;
+    let s = b * (m / MILLIONTH) + b * (m % MILLIONTH) / MILLIONTH;
+    (s / 1_000_000) as i64 - 3 * b as i64
+}
+
+// c * n / CENTURY, rounded down, where the product may have 88 bits: with c = CENTURY * a + b it is b * n / CENTURY + a * n.
 pub fn per_century(c: i64, n: i64) -> i64
-    requires { ⌜ (natAbs c < 2 ^ 45) × (natAbs n < 2 ^ 45) ⌝ }
+    requires { ⌜ (natAbs c < 2 ^ 45) × (natAbs n < 2 ^ 43) ⌝ }
     ensures { λ r. ⌜ r ≡ floorDiv (c *ℤ n) century ⌝ }
 {
-    let h = n / 32768;
-    let x = divide(0, c, h / 32768);
-    let y = divide(x.left, c, h % 32768);
-    let z = divide(y.left, c, n % 32768);
-    (x.quotient * 32768 + y.quotient) * 32768 + z.quotient
+    let a = floor_div(c, CENTURY);
+    rest_per_century((c - CENTURY * a) as u64, n) + a * n
 }
 
-// The largest number whose square is at most x, by Newton's steps down from above: a step from any number lands at the root or
-// above it. The first step, from 2^30, is worked out in the start.
+// The integer square root, the largest h with h * h <= x, by Newton's steps down from above: a step from any number lands at the
+// root or above it. The first step, from 2^30, is worked out in the start.
 pub fn root(x: u64) -> u64
     ensures { λ r. ⌜ (r ≡ root x) × (r * r ≤ x) ⌝ }
 {

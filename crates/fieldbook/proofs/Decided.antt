@@ -1,23 +1,29 @@
--- A shot by what its parts answer: a refusal of the card, the calendar or the sight is handed on, or the shot goes on from there. Assumes
--- nothing.
+-- A shot by what its parts answer: a refusal of the card, the calendar, the site or the sight is handed on, or the shot goes on from there.
+-- Assumes nothing.
 use Prim.Native.Nat.{ℕ}
 use native.Mathlib.Omega.{arith}
-use mathlib.Core.Path.{_≡_, refl, sym, ap, _∙_}
+use mathlib.Core.Path.{_≡_, refl, ap, _∙_}
+use mathlib.Core.List.{List}
 use lib.Dec.{lit<}
 use lib.IntN.{ℤ}
 use Rattle.refusal.specs.declared.Refusal.{Refusal}
 use Rattle.refusal.specs.Numbers.{numberOf}
-use Rattle.refusal.specs.Tests.{decided}
-use Rattle.refusal.proofs.Decisions.{Numbered, Refusable, decided-append, handed-on, passed-on, is-answer}
+use Rattle.refusal.specs.Tests.{Test}
+use Rattle.refusal.proofs.Decisions.{Numbered, Refusable, handed-on, passed-on, is-answer, first-refuse, first-pass}
 use Rattle.calendar.specs.Time as Time
-use Rattle.calendar.specs.Time.{InstantValues, instant, millionths, accepted, instantTests, instantOf}
+use Rattle.calendar.specs.Time.{InstantValues, instant, epochsOf, accepted, instantTests, instantOf}
+use Rattle.calendar.specs.declared.Epochs.{Epochs}
+use Rattle.site.specs.Site as Site
+use Rattle.site.specs.Site.{LocatedValues, place, siteTests, located}
+use Rattle.site.specs.declared.Site.{Site}
+use Rattle.site.specs.declared.Place.{Place}
 use Rattle.horizon.specs.Horizon as Horizon
 use Rattle.horizon.specs.Horizon.{View, SightValues, seen, sightTests, sightOf}
 use Rattle.card.specs.declared.Card.{Card}
-use Rattle.card.specs.declared.Numbers.{Numbers}
-use Rattle.card.specs.Shot.{ConfirmedValues, numbersOf, cardTests, given, withheld, confirmedNumbers}
-use Rattle.fieldbook.specs.Shot.{Values, refused, InTurn, answered, timeOf, testsAt, tests, answerOf, shotOf, cardShot}
-use Rattle.fieldbook.specs.Parts.{viewShot, shotAt}
+use Rattle.card.specs.Shot.{ConfirmedValues, numbersIn, cardTests, given, withheld, confirmedNumbers}
+use Rattle.fieldbook.specs.Shot.{Values, refused, InTurn, answered, numbersOf, testsFrom, testsAt, answerFrom, tests, answerOf, shotOf, cardNumbers, cardShot}
+use Rattle.fieldbook.specs.Parts.{viewShot, shotFrom, shotAt}
+use Rattle.fieldbook.specs.declared.Numbers.{Numbers}
 
 -- a refusal's angles
 pub refused-in-turn : (k : ℕ) → InTurn (refused k)
@@ -47,55 +53,60 @@ module _ (v : View) (s : ℕ) where
       ap withLongitude (is-answer sights (seen v) seen-number ts all a z e)
       ∙ passed-on sights (seen v) seen-number (answered v s) refused ts all (z ∙ ap (λ (a : SightValues). a .refusal) e)
 
+-- ---- by the site's answer
+abbrev sites : Refusable LocatedValues
+sites = record { number = λ v. v .refusal; refused = Site.refused; gives = λ k. refl }
+
+module _ (es : Epochs) (site : Site) (body : ℤ) where
+  pub refused-site : (r : Refusal) → Site.refused (numberOf r) ≡ located site → refused (numberOf r) ≡ shotAt es site body
+  unfolding located shotAt
+  refused-site r e =
+      first-refuse sites (Site.accepted (place site)) refl (siteTests site) (testsFrom es (place site) body) (answerFrom es (place site) body) refused r (ap (λ (a : LocatedValues). a .refusal) e)
+
+  pub accepted-site : (p : Place) → Site.accepted p ≡ located site → shotFrom es p body ≡ shotAt es site body
+  unfolding located shotAt shotFrom
+  accepted-site p e =
+      let all : Numbered (siteTests site) = (omega arith, (omega arith, tt)) in
+      let h = first-pass sites (Site.accepted (place site)) refl (siteTests site) (testsFrom es (place site) body) (answerFrom es (place site) body) refused all (Site.accepted p) refl e in
+      ap (λ (a : LocatedValues). shotFrom es (record { latitude = a .latitude; longitude = a .longitude }) body) (h .0) ∙ h .1
+
 -- ---- by the calendar's answer
 abbrev instants : Refusable InstantValues
 instants = record { number = λ v. v .refusal; refused = Time.refused; gives = λ k. refl }
 
 module _ (x : Numbers) where
-  abbrev N : ℤ
-  N = instant (timeOf x)
+  abbrev found : Epochs
+  found = epochsOf (instant (x .time))
 
-  abbrev found : InstantValues
-  found = accepted N (millionths N)
+  abbrev after : List Test
+  after = testsAt found (x .site) (x .body)
 
-  abbrev at : ℤ → ℤ → Values
-  at n q = shotAt n q (x .latitude) (x .longitude) (x .body)
+  pub refused-instant : (r : Refusal) → Time.refused (numberOf r) ≡ instantOf (x .time) → refused (numberOf r) ≡ shotOf x
+  unfolding instantOf shotOf
+  refused-instant r e = first-refuse instants (accepted found) refl (instantTests (x .time)) after (answerOf x) refused r (ap (λ (a : InstantValues). a .refusal) e)
 
-  -- the instant's tests come first
-  instant-first : shotOf x ≡ decided (instantTests (timeOf x)) (at N (millionths N)) refused
-  unfolding shotOf shotAt
-  instant-first = decided-append (instantTests (timeOf x)) (testsAt N (millionths N) (x .latitude) (x .longitude) (x .body)) (answerOf x) refused
-
-  pub refused-instant : (r : Refusal) → Time.refused (numberOf r) ≡ instantOf (timeOf x) → refused (numberOf r) ≡ shotOf x
-  unfolding instantOf
-  refused-instant r e =
-      handed-on instants found refl (at N (millionths N)) refused (instantTests (timeOf x)) r (ap (λ (a : InstantValues). a .refusal) e) ∙ sym instant-first
-
-  pub accepted-instant : (n q : ℤ) → accepted n q ≡ instantOf (timeOf x) → at n q ≡ shotOf x
-  unfolding instantOf
-  accepted-instant n q e =
-      let ts = instantTests (timeOf x) in
-      let all : Numbered ts = (omega arith, (omega arith, (omega arith, tt))) in
-      ap (λ (a : InstantValues). at (a .n) (a .q)) (is-answer instants found refl ts all (accepted n q) refl e)
-      ∙ passed-on instants found refl (at N (millionths N)) refused ts all (ap (λ (a : InstantValues). a .refusal) e) ∙ sym instant-first
+  pub accepted-instant : (es : Epochs) → accepted es ≡ instantOf (x .time) → shotAt es (x .site) (x .body) ≡ shotOf x
+  unfolding instantOf shotOf shotAt
+  accepted-instant es e =
+      let all : Numbered (instantTests (x .time)) = (omega arith, (omega arith, (omega arith, tt))) in
+      let h = first-pass instants (accepted found) refl (instantTests (x .time)) after (answerOf x) refused all (accepted es) refl e in
+      ap (λ (a : InstantValues). shotAt (a .epochs) (x .site) (x .body)) (h .0) ∙ h .1
 
 -- ---- by the numbers of a card
 abbrev cards : Refusable ConfirmedValues
 cards = record { number = λ v. v .refusal; refused = withheld; gives = λ k. refl }
 
 module _ (c : Card) where
-  -- the card's test comes first
-  card-first : cardShot c ≡ decided (cardTests c) (shotOf (numbersOf c)) refused
+  abbrev x : Numbers
+  x = cardNumbers c
+
+  pub refused-card : (r : Refusal) → numberOf r ≡ confirmedNumbers c .refusal → refused (numberOf r) ≡ cardShot c
+  unfolding cardShot
+  refused-card r e = first-refuse cards (given (numbersIn c)) refl (cardTests c) (tests x) (answerOf x) refused r e
+
+  pub confirmed-card : (numbers : List ℤ) → given numbers ≡ confirmedNumbers c → shotOf (numbersOf numbers) ≡ cardShot c
   unfolding cardShot shotOf
-  card-first = decided-append (cardTests c) (tests (numbersOf c)) (answerOf (numbersOf c)) refused
-
-  pub refused-card : (r : Refusal) → withheld (numberOf r) ≡ confirmedNumbers c → refused (numberOf r) ≡ cardShot c
-  refused-card r e =
-      handed-on cards (given (numbersOf c)) refl (shotOf (numbersOf c)) refused (cardTests c) r (ap (λ (a : ConfirmedValues). a .refusal) e) ∙ sym card-first
-
-  pub confirmed-card : (x : Numbers) → given x ≡ confirmedNumbers c → shotOf x ≡ cardShot c
-  confirmed-card x e =
+  confirmed-card numbers e =
       let all : Numbered (cardTests c) = (omega arith, tt) in
-      ap (λ (a : ConfirmedValues). shotOf (a .numbers)) (is-answer cards (given (numbersOf c)) refl (cardTests c) all (given x) refl e)
-      ∙ passed-on cards (given (numbersOf c)) refl (shotOf (numbersOf c)) refused (cardTests c) all (ap (λ (a : ConfirmedValues). a .refusal) e)
-      ∙ sym card-first
+      let h = first-pass cards (given (numbersIn c)) refl (cardTests c) (tests x) (answerOf x) refused all (given numbers) refl e in
+      ap (λ (a : ConfirmedValues). shotOf (numbersOf (a .numbers))) (h .0) ∙ h .1

@@ -1,22 +1,55 @@
 // The shot: where the Sun or Polaris stands for ten numbers, or for a card. Document 01, "Refusal numbers", "The horizon".
 ghost use mathlib.Core.Path.{_≡_};
-ghost use Prim.Native.Nat.{_≤_, _<_, _^_};
-ghost use lib.IntN.{natAbs};
-ghost use Rattle.calendar.specs.Time.{InstantRange, MillionthsRange};
-ghost use Rattle.fieldbook.specs.Shot.{valuesOf, InTurn, inUnits, shotOf, cardShot};
-ghost use Rattle.fieldbook.specs.Parts.{viewShot, sunShot, polarisShot, shotAt};
+ghost use Prim.Native.Nat.{_<_};
+ghost use Rattle.epoch.specs.Sizes.{InSpan};
+ghost use Rattle.site.specs.Sizes.{Within};
+ghost use Rattle.fieldbook.specs.Shot.{numbersOf, valuesOf, InTurn, shotOf, cardShot};
+ghost use Rattle.fieldbook.specs.Parts.{viewShot, sunShot, polarisShot, shotFrom, shotAt};
 ghost use Rattle.fieldbook.specs.Sky.{IsSky};
 ghost use Rattle.sine.specs.Sine.{entries};
 ghost use Rattle.horizon.specs.Horizon.{View, sightOf, sightValues, Reduced};
 ghost use Rattle.exact.specs.Angle.{turn};
 use calendar::CivilTime;
+use calendar::Epochs;
 use calendar::Instant;
 use card::Card;
-use card::ConfirmedNumbers;
-use card::Numbers;
+use frame::Frame;
 use horizon::Sighting;
 use refusal::Refusal;
+use refusal::Verdict;
 use sine::SineTable;
+use site::Located;
+use site::Place;
+use site::Site;
+
+// What a shot is asked with: fields 1 to 7 of document 01's card, 8 and 9, and 10.
+pub struct Numbers {
+    pub time: CivilTime,
+    pub site: Site,
+    pub body: i64,
+}
+
+// The numbers of the fields, in the order of the card.
+pub fn numbers_of(fields: [i64; card::FIELDS]) -> Numbers
+    ensures { λ r. ⌜ r ≡ numbersOf fields ⌝ }
+{
+    Numbers {
+        time: CivilTime {
+            year: fields[0],
+            month: fields[1],
+            day: fields[2],
+            hour: fields[3],
+            minute: fields[4],
+            millisecond: fields[5],
+            dut1: fields[6],
+        },
+        site: Site {
+            latitude: fields[7],
+            longitude: fields[8],
+        },
+        body: fields[9],
+    }
+}
 
 // An answered shot, in units of 0.0001 second of arc: the azimuth from north clockwise, the angle from the zenith, the hour angle, and
 // the Sun's apparent longitude s, 0 for Polaris.
@@ -55,108 +88,99 @@ fn answered(sighting: Sighting, longitude: u64) -> Outcome
     }
 }
 
-// The sky of an accepted instant, which both bodies share: N, q, the arguments, the frame of the date and Greenwich sidereal time.
+// The sky of an accepted instant, which both bodies share: its epochs, the arguments, the frame of the date and Greenwich sidereal time.
 struct Sky {
-    n: i64,
-    q: i64,
-    arguments: [i64; 11],
-    obliquity: i64,
-    nutation: i64,
-    epsilon: i64,
+    epochs: Epochs,
+    arguments: [i64; arguments::COUNT],
+    frame: Frame,
     sidereal: u64,
 }
 
-fn sky_of(t: &SineTable, n: i64, q: i64) -> Sky
-    requires { ⌜ (now t ≡ entries) × (InstantRange n × MillionthsRange q) ⌝ }
-    ensures { λ r. ⌜ ((r .n ≡ n) × (r .q ≡ q)) × IsSky r ⌝ }
+fn sky_of(t: &SineTable, epochs: Epochs) -> Sky
+    requires { ⌜ (now t ≡ entries) × (InSpan (epochs .universal) × InSpan (epochs .ephemeris)) ⌝ }
+    ensures { λ r. ⌜ (r .epochs ≡ epochs) × IsSky r ⌝ }
 {
-    let arguments = arguments::arguments(n, q);
-    let f = frame::frame_of(t, &arguments, q);
-    let sidereal = frame::sidereal_time(t, n, q, f.nutation, f.epsilon);
+    let e = epochs.ephemeris;
+    let arguments = arguments::arguments(e);
+    let frame = frame::frame_of(t, &arguments, e);
+    let sidereal = frame::sidereal_time(t, epochs.universal, frame.nutation, frame.epsilon);
     Sky {
-        n: n,
-        q: q,
+        epochs: epochs,
         arguments: arguments,
-        obliquity: f.obliquity,
-        nutation: f.nutation,
-        epsilon: f.epsilon,
+        frame: frame,
         sidereal: sidereal,
     }
 }
 
-// The Sun from a place in units.
-fn sun_shot(t: &SineTable, sky: Sky, latitude: i64, longitude: i64) -> Outcome
-    requires { ⌜ (now t ≡ entries) × IsSky sky × ((natAbs latitude < 2 ^ 40) × (natAbs longitude < 2 ^ 40)) ⌝ }
-    ensures { λ r. ⌜ (valuesOf r ≡ sunShot (sky .n) (sky .q) latitude longitude) × InTurn (valuesOf r) ⌝ }
+// The Sun from a place.
+fn sun_shot(t: &SineTable, sky: Sky, place: Place) -> Outcome
+    requires { ⌜ (now t ≡ entries) × IsSky sky × Within place ⌝ }
+    ensures { λ r. ⌜ (valuesOf r ≡ sunShot (sky .epochs) place) × InTurn (valuesOf r) ⌝ }
 {
     let arguments = sky.arguments;
-    let s = sun::apparent_longitude(t, &arguments, sky.q, sky.nutation);
-    let d = rotation::from_ecliptic(t, s, sky.epsilon);
-    answered(horizon::sight(t, d, sky.sidereal, latitude, longitude), s)
+    let e = sky.epochs.ephemeris;
+    let s = sun::apparent_longitude(t, &arguments, e, sky.frame.nutation, sun::ABERRATION);
+    let d = sun::direction(t, s, sky.frame.epsilon);
+    answered(horizon::sight(t, d, sky.sidereal, place), s)
 }
 
-// Polaris from a place in units.
-fn polaris_shot(t: &SineTable, sky: Sky, latitude: i64, longitude: i64) -> Outcome
-    requires { ⌜ (now t ≡ entries) × IsSky sky × ((natAbs latitude < 2 ^ 40) × (natAbs longitude < 2 ^ 40)) ⌝ }
-    ensures { λ r. ⌜ (valuesOf r ≡ polarisShot (sky .n) (sky .q) latitude longitude) × InTurn (valuesOf r) ⌝ }
+// Polaris from a place.
+fn polaris_shot(t: &SineTable, sky: Sky, place: Place) -> Outcome
+    requires { ⌜ (now t ≡ entries) × IsSky sky × Within place ⌝ }
+    ensures { λ r. ⌜ (valuesOf r ≡ polarisShot (sky .epochs) place) × InTurn (valuesOf r) ⌝ }
 {
     let arguments = sky.arguments;
-    let g = sun::centre_longitude(t, &arguments, sky.q);
-    let d = polaris::direction(t, sky.n, sky.obliquity, sky.nutation, sky.epsilon, g);
-    answered(horizon::sight(t, d, sky.sidereal, latitude, longitude), 0)
+    let e = sky.epochs.ephemeris;
+    let f = sky.frame;
+    let g = sun::centre_longitude(t, &arguments, e);
+    let d = polaris::direction(t, e, f.obliquity, f.nutation, f.epsilon, g);
+    answered(horizon::sight(t, d, sky.sidereal, place), 0)
 }
 
-// A field of the place, which is in 0.1″, in units.
-fn in_units(field: i64) -> i64
-    requires { ⌜ natAbs field ≤ 6480000 ⌝ }
-    ensures { λ r. ⌜ (r ≡ inUnits field) × (natAbs r < 2 ^ 40) ⌝ }
+// An accepted instant from a place, of any body: the body's refusal, then its shot.
+fn shot_from(t: &SineTable, epochs: Epochs, place: Place, body: i64) -> Outcome
+    requires { ⌜ (now t ≡ entries) × (InSpan (epochs .universal) × InSpan (epochs .ephemeris)) × Within place ⌝ }
+    ensures { λ r. ⌜ (valuesOf r ≡ shotFrom epochs place body) × InTurn (valuesOf r) ⌝ }
 {
-    field * 1000
-}
-
-// An accepted instant from any place, of any body: the place's and the body's refusals, then the body's shot. The sine's table is
-// built here, once.
-fn shot_at(n: i64, q: i64, latitude: i64, longitude: i64, body: i64) -> Outcome
-    requires { ⌜ InstantRange n × MillionthsRange q ⌝ }
-    ensures { λ r. ⌜ (valuesOf r ≡ shotAt n q latitude longitude body) × InTurn (valuesOf r) ⌝ }
-{
-    if !exact::between(-3_204_000, latitude, 3_204_000) {
-        return Outcome::Refused(Refusal::NoPlace);
-    }
-    if !exact::between(-6_479_999, longitude, 6_480_000) {
-        return Outcome::Refused(Refusal::NoPlace);
-    }
     if !exact::between(1, body, 2) {
         return Outcome::Refused(Refusal::NoBody);
     }
-    let phi = in_units(latitude);
-    let east = in_units(longitude);
-    let t = sine::table();
-    let sky = sky_of(&t, n, q);
+    let sky = sky_of(t, epochs);
     if exact::between(1, body, 1) {
-        sun_shot(&t, sky, phi, east)
+        sun_shot(t, sky, place)
     } else {
-        polaris_shot(&t, sky, phi, east)
+        polaris_shot(t, sky, place)
     }
 }
 
-// The shot with ten plain numbers, any numbers.
+// An accepted instant from any site, of any body.
+fn shot_at(t: &SineTable, epochs: Epochs, site: Site, body: i64) -> Outcome
+    requires { ⌜ (now t ≡ entries) × (InSpan (epochs .universal) × InSpan (epochs .ephemeris)) ⌝ }
+    ensures { λ r. ⌜ (valuesOf r ≡ shotAt epochs site body) × InTurn (valuesOf r) ⌝ }
+{
+    match site::place_of(site) {
+        Located::At(place) => shot_from(t, epochs, place, body),
+        Located::Refused(refusal) => Outcome::Refused(refusal),
+    }
+}
+
+// The shot with plain numbers, any numbers, with the sine's table lent: a caller of many shots names it once.
+pub fn shot_with(t: &SineTable, numbers: Numbers) -> Outcome
+    requires { ⌜ now t ≡ entries ⌝ }
+    ensures { λ r. ⌜ (valuesOf r ≡ shotOf numbers) × InTurn (valuesOf r) ⌝ }
+{
+    match calendar::instant_of(numbers.time) {
+        Instant::Accepted(epochs) => shot_at(t, epochs, numbers.site, numbers.body),
+        Instant::Refused(refusal) => Outcome::Refused(refusal),
+    }
+}
+
+// The same, with a table of its own.
 pub fn shot(numbers: Numbers) -> Outcome
     ensures { λ r. ⌜ (valuesOf r ≡ shotOf numbers) × InTurn (valuesOf r) ⌝ }
 {
-    let t = CivilTime {
-        year: numbers.year,
-        month: numbers.month,
-        day: numbers.day,
-        hour: numbers.hour,
-        minute: numbers.minute,
-        millisecond: numbers.millisecond,
-        dut1: numbers.dut1,
-    };
-    match calendar::instant_of(t) {
-        Instant::Accepted(n, q) => shot_at(n, q, numbers.latitude, numbers.longitude, numbers.body),
-        Instant::Refused(refusal) => Outcome::Refused(refusal),
-    }
+    let t = sine::table();
+    shot_with(&t, numbers)
 }
 
 // An outcome, with the card that it came from.
@@ -169,13 +193,26 @@ fn from_card(outcome: Outcome, card: Card) -> CardShot
     }
 }
 
-// The shot from a card: refusal 1 where a field is not confirmed, else the shot with its ten confirmed numbers. The card is answered as it
-// was given.
+// The shot from a card, with the sine's table lent: refusal 1 where a field is not confirmed, else the shot with its confirmed numbers. The
+// card is answered as it was given.
+pub fn shot_from_card_with(t: &SineTable, card: Card) -> CardShot
+    requires { ⌜ now t ≡ entries ⌝ }
+    ensures { λ r. ⌜ (valuesOf (r .outcome) ≡ cardShot card) × (r .card ≡ card) × InTurn (valuesOf (r .outcome)) ⌝ }
+{
+    let confirmed = card::confirmed_numbers(card);
+    let verdict = confirmed.verdict;
+    let fields = confirmed.numbers;
+    let numbers = numbers_of(fields);
+    match verdict {
+        Verdict::Accepted => from_card(shot_with(t, numbers), card),
+        Verdict::Refused(refusal) => from_card(Outcome::Refused(refusal), card),
+    }
+}
+
+// The same, with a table of its own.
 pub fn shot_from_card(card: Card) -> CardShot
     ensures { λ r. ⌜ (valuesOf (r .outcome) ≡ cardShot card) × (r .card ≡ card) × InTurn (valuesOf (r .outcome)) ⌝ }
 {
-    match card::confirmed_numbers(card) {
-        ConfirmedNumbers::All(numbers) => from_card(shot(numbers), card),
-        ConfirmedNumbers::Refused(refusal) => from_card(Outcome::Refused(refusal), card),
-    }
+    let t = sine::table();
+    shot_from_card_with(&t, card)
 }

@@ -16,6 +16,7 @@ use Rattle.sine.specs.Sine.{R}
 use Rattle.sine.specs.Angle.{angle}
 use Rattle.rotation.specs.Rotation.{turned, sinOf, cosOf, rotation3}
 use Rattle.rotation.specs.Length.{componentMost}
+use Rattle.site.specs.declared.Place.{Place}
 use Rattle.horizon.specs.declared.Sighting.{Sighting}
 use Rattle.horizon.specs.declared.Sighting.the-variants.{Seen, Refused}
 
@@ -49,11 +50,11 @@ pub record View : Type 0 where
 abbrev pub view : ℤ → ℤ → ℤ → ℤ → View
 view x u e n = record { x = x; up = u; east = e; north = n }
 
--- of direction d, at Greenwich's sidereal time, from a latitude and a longitude
-unfoldable pub viewFrom : ℤ → ℤ → ℤ → List ℤ → View
-viewFrom sidereal latitude longitude d =
-    let m = meridian sidereal longitude d in
-    let h = horizon latitude m in
+-- of direction d, at Greenwich's sidereal time, from a place
+unfoldable pub viewFrom : ℤ → Place → List ℤ → View
+viewFrom sidereal place d =
+    let m = meridian sidereal (place .longitude) d in
+    let h = horizon (place .latitude) m in
     view (at m 0) (at h 0) (at h 1) (at h 2)
 
 -- what a sight is answered with: 0 with the three angles, or a refusal's number with zeros

@@ -6,10 +6,12 @@ ghost use lib.IntN.{natAbs, pos};
 ghost use Rattle.exact.specs.Angle.{turn};
 ghost use Rattle.sine.specs.Sine.{entries};
 ghost use Rattle.rotation.specs.Length.{squaredLength, reach, growth, componentMost};
+ghost use Rattle.site.specs.Sizes.{Within};
 ghost use Rattle.horizon.specs.Horizon.{meridian, horizon, view, viewFrom, sightOf, sightValues, Reduced, horizontalSquare, squareMost};
 use refusal::Refusal;
 use rotation::Direction;
 use sine::SineTable;
+use site::Place;
 
 // Where the body stands, in units of 0.0001 second of arc: the azimuth from north clockwise, the angle from the zenith, the hour angle.
 pub struct Angles {
@@ -73,12 +75,12 @@ fn sight_of(t: &SineTable, x: i64, up: i64, east: i64, north: i64) -> Sighting
     })
 }
 
-// What an observer sees of a body in direction d, at a sidereal time of Greenwich.
-pub fn sight(t: &SineTable, d: Direction, sidereal: u64, latitude: i64, longitude: i64) -> Sighting
-    requires { ⌜ (now t ≡ entries) × (squaredLength d + 2 * growth ≤ reach) × (sidereal < turn) × (natAbs latitude < 2 ^ 40) × (natAbs longitude < 2 ^ 40) ⌝ }
-    ensures { λ r. ⌜ (sightValues r ≡ sightOf (viewFrom (pos sidereal) latitude longitude d)) × Reduced r ⌝ }
+// What an observer at a place sees of a body in direction d, at a sidereal time of Greenwich.
+pub fn sight(t: &SineTable, d: Direction, sidereal: u64, place: Place) -> Sighting
+    requires { ⌜ (now t ≡ entries) × (squaredLength d + 2 * growth ≤ reach) × (sidereal < turn) × Within place ⌝ }
+    ensures { λ r. ⌜ (sightValues r ≡ sightOf (viewFrom (pos sidereal) place d)) × Reduced r ⌝ }
 {
-    let m = to_meridian(t, d, sidereal, longitude);
-    let h = to_horizon(t, m, latitude);
+    let m = to_meridian(t, d, sidereal, place.longitude);
+    let h = to_horizon(t, m, place.latitude);
     sight_of(t, m[0], h[0], h[1], h[2])
 }

@@ -1,8 +1,8 @@
 -- The words of a line and the numbers that they are, one word at a time. Assumes nothing.
-use Prim.Native.Nat.{ℕ, zero, suc, _+_, _<_, _≤_}
+use Prim.Native.Nat.{ℕ, suc, _+_, _<_, _≤_}
 use native.Mathlib.Omega.{arith}
 use native.Mathlib.Numerals.{add-one}
-use mathlib.Core.Path.{_≡_, refl, sym, ap, _∙_}
+use mathlib.Core.Path.{_≡_, refl, ap, _∙_}
 use mathlib.Core.Bool.{Bool, true, false, cond}
 use mathlib.Core.List.{List, [], _∷_, _++_}
 use borrow.Author.Tests.{lt-ltb, le-ltb}
@@ -10,9 +10,8 @@ use lib.Dec.{eqb}
 use lib.IntN.{ℤ}
 use lib.ListN.{length, take, drop, set}
 use lib.Seq.{take-all, take-suc-set, length-take-le}
-use Rattle.lines.specs.declared.Numeral.{Numeral}
 use Rattle.lines.specs.declared.Numeral.the-variants.{Number, NoNumber}
-use Rattle.lines.specs.Numbers.{indexOf, numeralOf, prefixed, words, rowLength, ifNumber, numbersBehind}
+use Rattle.lines.specs.Numbers.{indexOf, numeralOf, prefixed, words, rowLength, numbersBehind}
 
 bound-by : (b : Bool) (k n : ℕ) → k ≤ n → cond b 0 (suc k) ≤ suc n
 bound-by true k n h = omega arith

@@ -3,11 +3,14 @@ ghost use mathlib.Core.Path.{_≡_};
 ghost use mathlib.Core.List.{[]};
 ghost use Prim.Native.Nat.{_+_, _%_, _^_, _≤_};
 ghost use lib.ListN.{length};
-ghost use Rattle.lines.specs.Numbers.{indexOf, digitsOf, Below, numeralOf, words, numbersBehind, numbersOf, listed};
+ghost use Rattle.lines.specs.Numbers.{indexOf, digitsOf, Below, numeralOf, numbersOf, listed};
 ghost use Rattle.lines.specs.Writing.{decimalText, Appends};
 
 // The most numbers that a line of any program has.
 const ROW: usize = 10;
+
+// The most digits of a number of 64 bits.
+const DIGITS: usize = 20;
 
 // What digits make.
 pub enum Digits {
@@ -104,34 +107,30 @@ fn empty_row() -> Row
     }
 }
 
-// The row with the numbers of a line behind its own.
-fn numbers_behind(row: Row, s: &[u8], most: usize) -> Row
-    requires { ⌜ most ≤ 18 ⌝ }
-    ensures { λ r. ⌜ listed r ≡ numbersBehind (listed row) most (words (now (s .entry))) ⌝ }
-{
-    let k = find(s, b' ');
-    let Numeral::Number(n) = numeral_of(&s[..k], most) else {
-        return empty_row();
-    };
-    let count = row.count;
-    if ROW <= count {
-        return empty_row();
-    }
-    let mut next = row;
-    next.numbers[count] = n;
-    next.count = count + 1;
-    if s.len() <= k {
-        return next;
-    }
-    numbers_behind(next, &s[k + 1..], most)
-}
-
 // The numbers of a line, each an optional "-" and 1 to `most` digits, with one space between.
 pub fn numbers_of(s: &[u8], most: usize) -> Row
     requires { ⌜ most ≤ 18 ⌝ }
     ensures { λ r. ⌜ listed r ≡ numbersOf most (now (s .entry)) ⌝ }
 {
-    numbers_behind(empty_row(), s, most)
+    let mut row = empty_row();
+    let mut from = 0;
+    while from <= s.len() {
+        let k = from + find(&s[from..], b' ');
+        let Numeral::Number(n) = numeral_of(&s[from..k], most) else {
+            return empty_row();
+        };
+        let count = row.count;
+        if ROW <= count {
+            return empty_row();
+        }
+        row.numbers[count] = n;
+        row.count = count + 1;
+        if s.len() <= k {
+            return row;
+        }
+        from = k + 1;
+    }
+    row
 }
 
 // The last decimal digit of n, as a byte.
@@ -139,20 +138,6 @@ fn last_digit(n: u64) -> u8
     ensures { λ r. ⌜ r ≡ 48 + n % 10 ⌝ }
 {
     b'0' + (n % 10) as u8
-}
-
-// Appends a number in plain decimal, the quotient's digits before the last digit, and returns where it ends.
-pub fn append_decimal(out: &mut [u8], at: usize, n: u64) -> usize
-    requires { ⌜ at + length (decimalText n) ≤ length (now out) ⌝ }
-    ensures { λ r. ⌜ Appends (now (out .entry)) at (decimalText n) (now (out .exit)) r ⌝ }
-{
-    if n < 10 {
-        out[at] = last_digit(n);
-        return at + 1;
-    }
-    let k = append_decimal(out, at, n / 10);
-    out[k] = last_digit(n);
-    k + 1
 }
 
 // Appends bytes, and returns where they end.
@@ -166,4 +151,22 @@ pub fn append_bytes(out: &mut [u8], at: usize, bytes: &[u8]) -> usize
         i += 1;
     }
     at + i
+}
+
+// Appends a number in plain decimal, and returns where it ends. The digits are written into an array first, from the last one on.
+pub fn append_decimal(out: &mut [u8], at: usize, n: u64) -> usize
+    requires { ⌜ at + length (decimalText n) ≤ length (now out) ⌝ }
+    ensures { λ r. ⌜ Appends (now (out .entry)) at (decimalText n) (now (out .exit)) r ⌝ }
+{
+    let mut text = [0u8; DIGITS];
+    let mut from = DIGITS;
+    let mut m = n;
+    while 10 <= m {
+        from -= 1;
+        text[from] = last_digit(m);
+        m = m / 10;
+    }
+    from -= 1;
+    text[from] = last_digit(m);
+    append_bytes(out, at, &text[from..])
 }

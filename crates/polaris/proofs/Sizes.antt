@@ -4,57 +4,40 @@ use mathlib.Core.List.{List}
 use Prim.Native.Nat.{ℕ, _+_, _*_, _^_, _≤_}
 use native.Mathlib.Nat.{le-refl, mul-le-mul}
 use native.Mathlib.Omega.{arith}
-use lib.Dec.{lit<}
 use lib.IntN.{ℤ, pos, natAbs, _+ℤ_, _-ℤ_, _*ℤ_}
 use lib.ListN.{length, getD}
-use lib.Signed.{_≤ℤ_, _<ℤ_}
 use mir.Syntax.{w64}
 use mir.Val.{SFits}
-use Rattle.exact.specs.Division.{floorDiv, nearest}
+use Rattle.exact.specs.Division.{nearest}
 use Rattle.exact.proofs.Differences.{split, zs, abs-dif}
-use Rattle.exact.proofs.Division.{floor-abs}
 use Rattle.exact.proofs.Integers.{abs-*-le}
-use Rattle.exact.proofs.Machine.{fits-le}
+use Rattle.exact.proofs.Machine.{fits-lt}
 use Rattle.sine.specs.Sine.{R}
 use Rattle.rotation.specs.Length.{squaredLength, reach, componentMost, Bounded}
 use Rattle.rotation.proofs.Growth.{rounded}
 use Rattle.rotation.proofs.Sizes.{components-le}
 use Rattle.rotation.proofs.Turned.{three}
-use Rattle.calendar.specs.Time.{InstantRange}
-use Rattle.polaris.specs.Apparent.{plus, aberrationMost}
+use Rattle.epoch.specs.Sizes.{Span}
+use Rattle.polaris.specs.Apparent.{plus}
+use Rattle.polaris.specs.Sizes.{Within, aberrationMost}
+use Rattle.polaris.specs.declared.Elements.{Elements}
 
 -- ---- p
-pub since-epoch : (n : ℤ) → InstantRange n
-    → SFits w64 (n -ℤ pos 2_366_796_499_200) × SFits w64 (pos 1_000_000 *ℤ (n -ℤ pos 2_366_796_499_200))
-    × (natAbs (pos 1_000_000 *ℤ (n -ℤ pos 2_366_796_499_200)) ≤ 2 ^ 20 * 3_155_692_599_360)
-since-epoch n = rw (split n) (simp zs (omega arith))
+abbrev pub million : ℤ → ℤ
+million n = pos 1_000_000 *ℤ (n -ℤ pos 2_366_796_499_200)
 
--- ---- c0 + floor(c1·p/10^6) + floor(c2·p²/d)
-module _ (c1 c2 p : ℤ) (h1 : natAbs c1 ≤ 2 ^ 25) (h2 : natAbs c2 ≤ 2 ^ 21) (hp : natAbs p ≤ 2 ^ 20) where
-  linear-le : natAbs (c1 *ℤ p) ≤ 2 ^ 45
-  linear-le = abs-*-le c1 p (2 ^ 25) (2 ^ 20) h1 hp
+pub since-1975 : (n : ℤ) → Span n → SFits w64 (n -ℤ pos 2_366_796_499_200) × SFits w64 (million n) × (natAbs (million n) ≤ 10 ^ 6 * 3_155_692_599_360)
+since-1975 n = rw (split n) (simp zs (omega arith))
 
-  p²-le : natAbs (p *ℤ p) ≤ 2 ^ 40
-  p²-le = abs-*-le p p (2 ^ 20) (2 ^ 20) hp hp
-
-  square-le : natAbs (c2 *ℤ (p *ℤ p)) ≤ 2 ^ 61
-  square-le = abs-*-le c2 (p *ℤ p) (2 ^ 21) (2 ^ 40) h2 p²-le
-
-  pub products-fit : SFits w64 (c1 *ℤ p) × SFits w64 (p *ℤ p) × SFits w64 (c2 *ℤ (p *ℤ p))
-  products-fit = (fits-le (2 ^ 45) _ linear-le refl, fits-le (2 ^ 40) _ p²-le refl, fits-le (2 ^ 61) _ square-le refl)
-
-  pub linear-floor : natAbs (floorDiv (c1 *ℤ p) 1_000_000) ≤ 2 ^ 26
-  linear-floor = floor-abs (c1 *ℤ p) 1_000_000 (2 ^ 26) (lit< tt) (omega (arith, linear-le))
-
-  pub square-floor : (d : ℕ) → 10 ^ 12 ≤ d → natAbs (floorDiv (c2 *ℤ (p *ℤ p)) d) ≤ 2 ^ 22
-  square-floor d h = floor-abs (c2 *ℤ (p *ℤ p)) d (2 ^ 22) (omega arith) (omega (arith, square-le))
-
-pub sums-fit : (c0 l s : ℤ) → natAbs c0 ≤ 2 ^ 32 → natAbs l ≤ 2 ^ 26 → natAbs s ≤ 2 ^ 22
-    → SFits w64 (c0 +ℤ l) × SFits w64 (c0 +ℤ l +ℤ s) × (natAbs (c0 +ℤ l +ℤ s) ≤ natAbs c0 + 2 ^ 27)
-sums-fit c0 l s = rw (split c0, split l, split s) (simp (zs, abs-dif) (omega arith))
-
-pub divisor : (d : ℤ) → pos (10 ^ 12) ≤ℤ d → (pos 0 <ℤ d) × (10 ^ 12 ≤ natAbs d)
-divisor d = rw (split d) (simp (zs, abs-dif) (omega arith))
+-- ---- the elements
+pub fit : {k : Elements} → Within k → SFits w64 (k .alpha) × SFits w64 (k .delta) × SFits w64 (k .zeta) × SFits w64 (k .theta) × SFits w64 (k .z)
+fit {k} h = (
+  fits-lt (2 ^ 40) (k .alpha) (h .alpha) refl,
+  fits-lt (2 ^ 40) (k .delta) (h .delta) refl,
+  fits-lt (2 ^ 40) (k .zeta) (h .zeta) refl,
+  fits-lt (2 ^ 40) (k .theta) (h .theta) refl,
+  fits-lt (2 ^ 40) (k .z) (h .z) refl,
+)
 
 -- ---- a·b over R
 pub share-le : (a b : ℤ) → natAbs b ≤ R → natAbs (nearest (a *ℤ b) R) ≤ natAbs a

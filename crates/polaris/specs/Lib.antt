@@ -1,2 +1,4 @@
+pub mod Rows
 pub mod Place
 pub mod Apparent
+pub mod Sizes

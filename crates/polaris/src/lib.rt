@@ -1,17 +1,22 @@
-// The direction of Polaris: document 01, "Polaris". The place of the FK4, source 001 section 3.1, with proper motion, precession, nutation and
-// aberration. Angles are in units of 0.0001 second of arc.
+// The direction of Polaris: document 01, "Polaris". The place of the FK4 with proper motion, precession, nutation and aberration. Angles are in
+// units of 0.0001 second of arc.
+mod tables;
+
 ghost use mathlib.Core.Path.{_≡_};
 ghost use Prim.Native.Nat.{_+_, _*_, _≤_, _<_, _^_};
-ghost use lib.IntN.{natAbs, pos, _*ℤ_};
-ghost use lib.Signed.{_≤ℤ_};
+ghost use lib.IntN.{natAbs, negℤ, _*ℤ_};
 ghost use Rattle.exact.specs.Angle.{turn};
 ghost use Rattle.exact.specs.Division.{nearest};
 ghost use Rattle.sine.specs.Sine.{R, entries};
 ghost use Rattle.sine.specs.Promises.{circleMost};
+ghost use Rattle.rotation.specs.Rotation.{turned, rotation3};
 ghost use Rattle.rotation.specs.Length.{squaredLength, reach, growth, Bounded};
-ghost use Rattle.calendar.specs.Time.{InstantRange};
-ghost use Rattle.polaris.specs.Place.{tropicalMillionths, quadratic, rightAscension, declination, catalogue};
-ghost use Rattle.polaris.specs.Apparent.{precessionZeta, precessionZ, precessionTheta, precessed, nutated, aberration, aberrationMost, plus, placeOfDate, direction, directionMost};
+ghost use Rattle.epoch.specs.Sizes.{InSpan};
+ghost use Rattle.secular.specs.Sizes.{largest};
+ghost use Rattle.polaris.specs.Place.{tropicalMillionths, elementsOf, catalogue};
+ghost use Rattle.polaris.specs.Apparent.{precessed, nutated, aberration, plus, placeOfDate, direction};
+ghost use Rattle.polaris.specs.Sizes.{Within, aberrationMost, directionMost};
+use epoch::Epoch;
 use rotation::Direction;
 use sine::SineTable;
 
@@ -21,115 +26,93 @@ const EPOCH: i64 = 2_366_796_499_200;
 // A tropical century of 36524.2199 days, in milliseconds (001 section 3.2).
 const TROPICAL_CENTURY: i64 = 3_155_692_599_360;
 
-// What the square of a millionth is divided by.
-const SQUARE: i64 = 1_000_000_000_000;
-
 // The constant of aberration, 20.496″, in parts of 1,000,000,000 of a radian.
 const ABERRATION: i64 = 99_367;
 
-// p, the millionths of a tropical century since 1975.0, at the instant n in milliseconds since 1900 January 0.5.
-pub fn tropical_millionths(n: i64) -> i64
-    requires { ⌜ InstantRange n ⌝ }
-    ensures { λ r. ⌜ (r ≡ tropicalMillionths n) × (natAbs r ≤ 2 ^ 20) ⌝ }
+// p, the millionths of a tropical century since 1975.0.
+pub fn tropical_millionths(e: Epoch) -> i64
+    requires { ⌜ InSpan e ⌝ }
+    ensures { λ r. ⌜ (r ≡ tropicalMillionths e) × (natAbs r ≤ largest) ⌝ }
 {
-    exact::floor_div(1_000_000 * (n - EPOCH), TROPICAL_CENTURY)
+    exact::floor_div(1_000_000 * (e.n - EPOCH), TROPICAL_CENTURY)
 }
 
-// c0 + c1·p / 10^6 + c2·p² / d, each quotient rounded down.
-fn quadratic(c0: i64, c1: i64, c2: i64, d: i64, p: i64) -> i64
-    requires { ⌜ (natAbs c0 ≤ 2 ^ 32) × (natAbs c1 ≤ 2 ^ 25) × (natAbs c2 ≤ 2 ^ 21) × (pos (10 ^ 12) ≤ℤ d) × (natAbs p ≤ 2 ^ 20) ⌝ }
-    ensures { λ r. ⌜ (r ≡ quadratic c0 c1 c2 (natAbs d) p) × (natAbs r ≤ natAbs c0 + 2 ^ 27) ⌝ }
-{
-    c0 + exact::floor_div(c1 * p, 1_000_000) + exact::floor_div(c2 * (p * p), d)
+// The angles that change with p: right ascension and declination with their proper motion, and precession's ζ, θ and z.
+pub struct Elements {
+    pub alpha: i64,
+    pub delta: i64,
+    pub zeta: i64,
+    pub theta: i64,
+    pub z: i64,
 }
 
-// The right ascension, 2.1240378h, with a proper motion of 0.0056894h a century, which changes by 0.0028261h a century (001 section 3.1).
-pub fn right_ascension(p: i64) -> i64
-    requires { ⌜ natAbs p ≤ 2 ^ 20 ⌝ }
-    ensures { λ r. ⌜ (r ≡ rightAscension p) × (natAbs r ≤ 2 ^ 33) ⌝ }
+pub fn elements_of(p: i64) -> Elements
+    requires { ⌜ natAbs p ≤ largest ⌝ }
+    ensures { λ r. ⌜ (r ≡ elementsOf p) × Within r ⌝ }
 {
-    quadratic(1_146_980_412, 3_072_276, 1_526_094, 2 * SQUARE, p)
+    let zeta = secular::value(tables::ZETA, p);
+    Elements {
+        alpha: secular::value(tables::RIGHT_ASCENSION, p),
+        delta: secular::value(tables::DECLINATION, p),
+        zeta: zeta,
+        theta: secular::value(tables::THETA, p),
+        z: zeta + secular::value(tables::Z_LESS_ZETA, p),
+    }
 }
 
-// The declination, 89.1499556°, with a proper motion of −0.0002167° a century, which changes by −0.0004389° a century (001 section 3.1).
-pub fn declination(p: i64) -> i64
-    requires { ⌜ natAbs p ≤ 2 ^ 20 ⌝ }
-    ensures { λ r. ⌜ (r ≡ declination p) × (natAbs r ≤ 2 ^ 33) ⌝ }
+// d turned by R3(−a).
+fn turn_back(t: &SineTable, a: i64, d: Direction) -> Direction
+    requires { ⌜ (now t ≡ entries) × (natAbs a < 2 ^ 40) × (squaredLength d ≤ reach) ⌝ }
+    ensures { λ r. ⌜ (r ≡ turned (rotation3 (negℤ a)) d) × (squaredLength r ≤ squaredLength d + growth) ⌝ }
 {
-    quadratic(3_209_398_402, -7_801, -15_800, 2 * SQUARE, p)
+    rotation::apply(rotation::about_z(t, -a), d)
 }
 
-// The catalogue's place at p, as a direction: the meridian of the right ascension turned to the equinox.
-pub fn catalogue(t: &SineTable, p: i64) -> Direction
-    requires { ⌜ (now t ≡ entries) × (natAbs p ≤ 2 ^ 20) ⌝ }
-    ensures { λ r. ⌜ (r ≡ catalogue p) × (squaredLength r ≤ circleMost + growth) ⌝ }
+// The direction of a right ascension and a declination: their meridian turned to the equinox.
+pub fn catalogue(t: &SineTable, alpha: i64, delta: i64) -> Direction
+    requires { ⌜ (now t ≡ entries) × (natAbs alpha < 2 ^ 40) × (natAbs delta < 2 ^ 40) ⌝ }
+    ensures { λ r. ⌜ (r ≡ catalogue alpha delta) × (squaredLength r ≤ circleMost + growth) ⌝ }
 {
-    let d = exact::reduced(declination(p));
-    let meridian = [sine::cos(t, d), 0, sine::sin(t, d)];
-    rotation::apply(rotation::about_z(t, -right_ascension(p)), meridian)
-}
-
-// ζ: 2304.250″ + 1.396″·0.75 a tropical century, and 0.302″ a century squared (004).
-pub fn precession_zeta(p: i64) -> i64
-    requires { ⌜ natAbs p ≤ 2 ^ 20 ⌝ }
-    ensures { λ r. ⌜ (r ≡ precessionZeta p) × (natAbs r ≤ 2 ^ 27) ⌝ }
-{
-    quadratic(0, 23_052_970, 3_020, SQUARE, p)
-}
-
-// z: 0.791″ a century squared more than ζ (004).
-pub fn precession_z(p: i64) -> i64
-    requires { ⌜ natAbs p ≤ 2 ^ 20 ⌝ }
-    ensures { λ r. ⌜ (r ≡ precessionZ p) × (natAbs r ≤ 2 ^ 28) ⌝ }
-{
-    quadratic(precession_zeta(p), 0, 7_910, SQUARE, p)
-}
-
-// θ: 2004.682″ − 0.853″·0.75 a century, and −0.426″ a century squared (004).
-pub fn precession_theta(p: i64) -> i64
-    requires { ⌜ natAbs p ≤ 2 ^ 20 ⌝ }
-    ensures { λ r. ⌜ (r ≡ precessionTheta p) × (natAbs r ≤ 2 ^ 27) ⌝ }
-{
-    quadratic(0, 20_040_423, -4_260, SQUARE, p)
+    let d = exact::reduced_bounded(delta);
+    turn_back(t, alpha, [sine::cos(t, d), 0, sine::sin(t, d)])
 }
 
 // Precession, from the equinox of 1975.0 to that of the date.
-fn precess(t: &SineTable, p: i64, d: Direction) -> Direction
-    requires { ⌜ (now t ≡ entries) × (natAbs p ≤ 2 ^ 20) × (squaredLength d + 2 * growth ≤ reach) ⌝ }
-    ensures { λ r. ⌜ (r ≡ precessed p d) × (squaredLength r ≤ squaredLength d + 3 * growth) ⌝ }
+fn precess(t: &SineTable, zeta: i64, theta: i64, z: i64, d: Direction) -> Direction
+    requires { ⌜ (now t ≡ entries) × (natAbs zeta < 2 ^ 40) × (natAbs theta < 2 ^ 40) × (natAbs z < 2 ^ 40) × (squaredLength d + 2 * growth ≤ reach) ⌝ }
+    ensures { λ r. ⌜ (r ≡ precessed zeta theta z d) × (squaredLength r ≤ squaredLength d + 3 * growth) ⌝ }
 {
-    let a = rotation::apply(rotation::about_z(t, -precession_zeta(p)), d);
-    let b = rotation::apply(rotation::about_y(t, precession_theta(p)), a);
-    rotation::apply(rotation::about_z(t, -precession_z(p)), b)
+    let a = rotation::apply(rotation::about_y(t, theta), turn_back(t, zeta, d));
+    turn_back(t, z, a)
 }
 
 // Nutation, from the mean equinox of the date to the true one.
 fn nutate(t: &SineTable, obliquity: i64, nutation: i64, epsilon: i64, d: Direction) -> Direction
-    requires { ⌜ (now t ≡ entries) × (natAbs nutation < 2 ^ 40) × (natAbs epsilon < 2 ^ 40) × (squaredLength d + 2 * growth ≤ reach) ⌝ }
+    requires { ⌜ (now t ≡ entries) × (natAbs obliquity < 2 ^ 40) × (natAbs nutation < 2 ^ 40) × (natAbs epsilon < 2 ^ 40) × (squaredLength d + 2 * growth ≤ reach) ⌝ }
     ensures { λ r. ⌜ (r ≡ nutated obliquity nutation epsilon d) × (squaredLength r ≤ squaredLength d + 3 * growth) ⌝ }
 {
     let a = rotation::apply(rotation::about_x(t, obliquity), d);
-    let b = rotation::apply(rotation::about_z(t, -nutation), a);
-    rotation::apply(rotation::about_x(t, -epsilon), b)
+    rotation::apply(rotation::about_x(t, -epsilon), turn_back(t, nutation, a))
 }
 
 // The direction without aberration, by the mean obliquity, the nutation in longitude and the true obliquity.
 pub fn place_of_date(
     t: &SineTable,
-    p: i64,
+    k: Elements,
     obliquity: i64,
     nutation: i64,
     epsilon: i64,
 ) -> Direction
-    requires { ⌜ (now t ≡ entries) × (natAbs p ≤ 2 ^ 20) × (natAbs nutation < 2 ^ 40) × (natAbs epsilon < 2 ^ 40) ⌝ }
-    ensures { λ r. ⌜ (r ≡ placeOfDate p obliquity nutation epsilon) × (squaredLength r ≤ circleMost + 7 * growth) ⌝ }
+    requires { ⌜ (now t ≡ entries) × Within k × (natAbs obliquity < 2 ^ 40) × (natAbs nutation < 2 ^ 40) × (natAbs epsilon < 2 ^ 40) ⌝ }
+    ensures { λ r. ⌜ (r ≡ placeOfDate k obliquity nutation epsilon) × (squaredLength r ≤ circleMost + 7 * growth) ⌝ }
 {
+    let d = catalogue(t, k.alpha, k.delta);
     nutate(
         t,
         obliquity,
         nutation,
         epsilon,
-        precess(t, p, catalogue(t, p)),
+        precess(t, k.zeta, k.theta, k.z, d),
     )
 }
 
@@ -143,10 +126,10 @@ fn share(a: i64, b: i64) -> i64
 
 // What aberration adds, where g is the Sun's longitude by the centre terms alone, reduced.
 fn aberration(t: &SineTable, epsilon: i64, g: u64) -> Direction
-    requires { ⌜ (now t ≡ entries) × (g < turn) ⌝ }
+    requires { ⌜ (now t ≡ entries) × (natAbs epsilon < 2 ^ 40) × (g < turn) ⌝ }
     ensures { λ r. ⌜ (r ≡ aberration epsilon g) × Bounded aberrationMost r ⌝ }
 {
-    let e = exact::reduced(epsilon);
+    let e = exact::reduced_bounded(epsilon);
     let c = -sine::cos(t, g);
     let x = share(ABERRATION, sine::sin(t, g));
     let y = share(ABERRATION, share(c, sine::cos(t, e)));
@@ -162,21 +145,21 @@ fn plus(d: Direction, a: Direction) -> Direction
     [d[0] + a[0], d[1] + a[1], d[2] + a[2]]
 }
 
-// The apparent direction of Polaris at the instant n, by the mean obliquity, the nutation in longitude, the true obliquity and g.
+// The apparent direction of Polaris, by the mean obliquity, the nutation in longitude, the true obliquity and g.
 pub fn direction(
     t: &SineTable,
-    n: i64,
+    e: Epoch,
     obliquity: i64,
     nutation: i64,
     epsilon: i64,
     g: u64,
 ) -> Direction
-    requires { ⌜ (now t ≡ entries) × InstantRange n × (natAbs nutation < 2 ^ 40) × (natAbs epsilon < 2 ^ 40) × (g < turn) ⌝ }
-    ensures { λ r. ⌜ (r ≡ direction n obliquity nutation epsilon g) × (squaredLength r ≤ directionMost) ⌝ }
+    requires { ⌜ (now t ≡ entries) × InSpan e × (natAbs obliquity < 2 ^ 40) × (natAbs nutation < 2 ^ 40) × (natAbs epsilon < 2 ^ 40) × (g < turn) ⌝ }
+    ensures { λ r. ⌜ (r ≡ direction e obliquity nutation epsilon g) × (squaredLength r ≤ directionMost) ⌝ }
 {
-    let p = tropical_millionths(n);
+    let k = elements_of(tropical_millionths(e));
     plus(
-        place_of_date(t, p, obliquity, nutation, epsilon),
+        place_of_date(t, k, obliquity, nutation, epsilon),
         aberration(t, epsilon, g),
     )
 }

@@ -84,3 +84,14 @@ module _ {A B : Type 0} (K : Refusable A) (a : A) (none : K .number a ≡ 0) (b 
 pub is-answer : {A : Type 0} (K : Refusable A) (a : A) → K .number a ≡ 0 → (ts : List Test) → Numbered ts → (x : A) → 0 ≡ K .number x → x ≡ decided ts a (K .refused)
     → x ≡ a
 is-answer K a none ts all x z e = e ∙ sym (passed-on K a none a (K .refused) ts all (z ∙ ap (K .number) e))
+
+-- TESTS THAT STAND FIRST IN A LONGER LIST: what they decided by themselves tells what the whole list decides
+module _ {A B : Type 0} (K : Refusable A) (a : A) (none : K .number a ≡ 0) (ts us : List Test) (b : B) (refused : ℕ → B) where
+  pub first-refuse : (r : Refusal) → numberOf r ≡ K .number (decided ts a (K .refused)) → refused (numberOf r) ≡ decided (ts ++ us) b refused
+  first-refuse r e = handed-on K a none (decided us b refused) refused ts r e ∙ sym (decided-append ts us b refused)
+
+  pub first-pass : Numbered ts → (x : A) → 0 ≡ K .number x → x ≡ decided ts a (K .refused) → (x ≡ a) × (decided us b refused ≡ decided (ts ++ us) b refused)
+  first-pass all x z e = (
+    is-answer K a none ts all x z e,
+    passed-on K a none (decided us b refused) refused ts all (z ∙ ap (K .number) e) ∙ sym (decided-append ts us b refused),
+  )

@@ -1,15 +1,18 @@
 -- What a line asks, by the numbers of a row and by its first bytes. Assumes nothing.
-use Prim.Native.Nat.{ℕ, suc, _+_, _<_, _≤_}
+use Prim.Native.Nat.{ℕ, _<_, _≤_}
 use native.Mathlib.Omega.{arith}
-use mathlib.Core.Path.{_≡_, refl, sym, ap, _∙_}
+use mathlib.Core.Path.{_≡_, refl}
 use mathlib.Core.List.{List, [], _∷_}
 use borrow.Author.Tests.{eq-eqb, ne-eqb}
 use lib.IntN.{ℤ, pos}
 use lib.ListN.{length, take, drop, getD, length-take}
 use lib.Seq.{take-all, getD-take}
 use Rattle.lines.specs.Numbers.{numbersOf, rowLength}
-use Rattle.replies.specs.declared.Command.the-variants.{Hear, Shoot, ShootPlain, Malformed}
-use Rattle.replies.specs.Commands.{nth, fieldCommand, spoken, tenNumbers, plainShot, sessionCommand}
+use Rattle.fieldbook.specs.Shot as Book
+use Rattle.fieldbook.specs.Shot.{shotOf}
+use Rattle.replies.specs.declared.Command.the-variants.{Hear, Shoot, Malformed}
+use Rattle.replies.specs.Commands.{nth, fieldCommand, spoken, sessionCommand}
+use Rattle.replies.specs.Answers.{refusalText, plainShotText, plainText}
 
 -- by the first n numbers of an array of ten
 module _ (a : List ℤ) (full : length a ≡ rowLength) (n : ℕ) where
@@ -31,10 +34,10 @@ module _ (a : List ℤ) (full : length a ≡ rowLength) (n : ℕ) where
     pub names-none : (n ≡ 1 → ⊥) → Malformed ≡ spoken c (take n a)
     names-none d = let l = length-take n a in rw (ne-eqb c 72 h, ne-eqb (length (take n a)) 1 λ e. d (omega arith))
 
-  pub shoots : 10 ≤ n → ShootPlain (tenNumbers a) ≡ plainShot (take n a)
+  pub shoots : 10 ≤ n → plainShotText (shotOf (Book.numbersOf a)) ≡ plainText (take n a)
   shoots h = rw (take-all n a (omega arith), eq-eqb (length a) 10 full)
 
-  pub shoots-not : n < 10 → Malformed ≡ plainShot (take n a)
+  pub shoots-not : n < 10 → refusalText 14 ≡ plainText (take n a)
   shoots-not h = let l = length-take n a in rw (ne-eqb (length (take n a)) 10 λ e. omega arith)
 
 -- by the first two bytes

@@ -1,5 +1,5 @@
--- A LINE LONGER THAN 199 BYTES IS MALFORMED, whatever it holds; so the first 200 bytes of a line ask what the whole line asks. Assumes nothing.
-use Prim.Native.Nat.{ℕ, zero, suc, _+_, _*_, _<_, _≤_}
+-- A LINE LONGER THAN 199 BYTES IS MALFORMED, whatever it holds; so the first 200 bytes of a line are answered as the whole line is. Assumes nothing.
+use Prim.Native.Nat.{ℕ, suc, _+_, _*_, _<_, _≤_}
 use native.Mathlib.Omega.{arith}
 use native.Mathlib.Nat.{mul-add, mul-one}
 use mathlib.Core.Path.{_≡_, refl, sym, ap, _∙_}
@@ -16,10 +16,13 @@ use Rattle.lines.specs.declared.Numeral.{Numeral}
 use Rattle.lines.specs.declared.Numeral.the-variants.{Number, NoNumber}
 use Rattle.lines.specs.Numbers.{digitsOf, plus, minus, numeralOf, prefixed, words, rowLength, ifNumber, numbersBehind, numbersOf}
 use Rattle.lines.proofs.Words.{first-word}
+use Rattle.card.specs.declared.Card.{Card}
+use Rattle.replies.specs.declared.Command.{Command}
 use Rattle.replies.specs.declared.Protocol.{Protocol}
 use Rattle.replies.specs.declared.Protocol.the-variants.{Session, Batch}
 use Rattle.replies.specs.declared.Command.the-variants.{Malformed}
-use Rattle.replies.specs.Commands.{spoken, sessionCommand, commandOf, longestLine}
+use Rattle.replies.specs.Commands.{spoken, sessionCommand, longestLine}
+use Rattle.replies.specs.Answers.{refusalText, answerText, cardAfter, plainReply, reply, next}
 
 same : {A : Type 0} (b : Bool) {x y z : A} → x ≡ z → y ≡ z → cond b x y ≡ z
 same true p q = p
@@ -108,11 +111,22 @@ long-session [] h = refl
 long-session (c ∷ []) h = absurd (omega arith)
 long-session (c ∷ s ∷ l) h = same (eqb s 32) (long-spoken c l (omega arith)) refl
 
-pub long-line : (p : Protocol) (l : List ℕ) → longestLine < length l → commandOf p l ≡ Malformed
-long-line Session l h = long-session l (omega arith)
-long-line Batch l h = rw (ne-eqb (length (numbersOf 18 l)) 10 (not-so-many 18 10 l (omega arith) (omega arith)))
+long-plain : (l : List ℕ) → longestLine < length l → plainReply l ≡ refusalText 14 ++ (10 ∷ [])
+unfolding plainReply
+long-plain l h = rw (ne-eqb (length (numbersOf 18 l)) 10 (not-so-many 18 10 l (omega arith) (omega arith)))
 
-pub first-bytes : (p : Protocol) (l : List ℕ) → commandOf p (take (suc longestLine) l) ≡ commandOf p l
-first-bytes p l = by-order (length l) (suc longestLine) (λ h. ap (commandOf p) (take-all (suc longestLine) l h)) λ h.
+-- what is the same for all long lines, the first 200 bytes tell
+told-by-first : {A : Type 0} (f : List ℕ → A) (a : A) → ((l : List ℕ) → longestLine < length l → f l ≡ a)
+    → (l : List ℕ) → f (take (suc longestLine) l) ≡ f l
+told-by-first f a long l = by-order (length l) (suc longestLine) (λ h. ap f (take-all (suc longestLine) l h)) λ h.
     let e = length-take-le (suc longestLine) l (omega arith) in
-    long-line p (take (suc longestLine) l) (omega arith) ∙ sym (long-line p l (omega arith))
+    long (take (suc longestLine) l) (omega arith) ∙ sym (long l (omega arith))
+
+first-asks : (l : List ℕ) → sessionCommand (take (suc longestLine) l) ≡ sessionCommand l
+first-asks = told-by-first sessionCommand Malformed λ l h. long-session l (omega arith)
+
+pub first-bytes : (p : Protocol) (c : Card) (l : List ℕ)
+    → (reply p c (take (suc longestLine) l) ≡ reply p c l) × (next p c (take (suc longestLine) l) ≡ next p c l)
+unfolding reply next
+first-bytes Session c l = (ap (λ (a : Command). answerText a c ++ (10 ∷ [])) (first-asks l), ap (λ (a : Command). cardAfter a c) (first-asks l))
+first-bytes Batch c l = (told-by-first plainReply (refusalText 14 ++ (10 ∷ [])) long-plain l, refl)

@@ -2,29 +2,31 @@
 -- Assumes nothing.
 use Prim.Native.Nat.{ℕ, _+_}
 use mathlib.Core.Path.{_≡_, refl, ap}
-use mathlib.Core.Bool.{false}
+use mathlib.Core.Bool.{Bool, true, false, cond}
 use mathlib.Core.Logic.{_≢_}
 use mathlib.Core.List.{List, [], _∷_, _++_}
 use borrow.Author.Tests.{eqb-false}
 use lib.Dec.{eqb}
 use lib.IntN.{ℤ, pos, negsuc}
-use lib.ListN.{getD}
+use lib.ListN.{length, getD}
 use Rattle.refusal.proofs.Decisions.{holds-decided}
 use Rattle.digits.specs.Text.{decimalIn, decimal, spaced, digits, text}
+use Rattle.lines.specs.Numbers as Lines
 use Rattle.lines.specs.Writing.{decimalText}
 use Rattle.card.specs.declared.Card.{Card}
 use Rattle.card.specs.declared.Field.the-variants.{Heard, Confirmed}
-use Rattle.card.specs.declared.Numbers.{Numbers}
 use Rattle.card.specs.Fields.{numberIn, placeOf, fieldOf, put}
-use Rattle.card.specs.Shot.{numbersOf, cardTests}
+use Rattle.card.specs.Shot.{cardTests}
 use Rattle.card.specs.Calls as Calls
 use Rattle.card.specs.Calls.{AnswerValues, accepted, hearTests, hearing, confirmTests, confirming, heldTests}
-use Rattle.fieldbook.specs.Shot.{Values, refused, tests, answerOf, shotOf, cardShot}
+use Rattle.fieldbook.specs.Shot.{Values, refused, tests, answerOf, shotOf, cardNumbers, cardShot}
+use Rattle.fieldbook.specs.declared.Numbers.{Numbers}
 use Rattle.replies.specs.declared.Command.{Command}
-use Rattle.replies.specs.declared.Command.the-variants.{Hear, Read, Confirm, Shoot, ShootPlain, Malformed}
+use Rattle.replies.specs.declared.Command.the-variants.{Hear, Read, Confirm, Shoot, Malformed}
 use Rattle.replies.specs.declared.Protocol.{Protocol}
-use Rattle.replies.specs.Commands.{commandOf}
-use Rattle.replies.specs.Answers.{refusalText, verdictText, readText, shotText, plainShotText, answerText, reply}
+use Rattle.replies.specs.declared.Protocol.the-variants.{Session, Batch}
+use Rattle.replies.specs.Commands.{sessionCommand}
+use Rattle.replies.specs.Answers.{refusalText, verdictText, readText, shotText, plainShotText, answerText, plainReply, reply}
 
 abbrev NotEleven : List ℕ → Type 0
 NotEleven t = t ++ (10 ∷ []) ≢ refusalText 11 ++ (10 ∷ [])
@@ -76,16 +78,16 @@ module _ (c : Card) (f : ℤ) where
 card-shot-is-not : (c : Card) → NotEleven (shotText (cardShot c))
 unfolding cardShot decimalText decimal decimalIn
 card-shot-is-not c =
-    holds-decided (λ (v : Values). NotEleven (shotText v)) (cardTests c ++ tests (numbersOf c)) (answerOf (numbersOf c)) refused
-    (differs 0 (shotText (answerOf (numbersOf c))) refl)
-    (tell 1 refl, (tell 2 refl, (tell 3 refl, (tell 4 refl, (tell 5 refl, (tell 6 refl, (tell 7 refl, (tell 8 refl, tt))))))))
+    holds-decided (λ (v : Values). NotEleven (shotText v)) (cardTests c ++ tests (cardNumbers c)) (answerOf (cardNumbers c)) refused
+    (differs 0 (shotText (answerOf (cardNumbers c))) refl)
+    (tell 1 refl, (tell 2 refl, (tell 3 refl, (tell 4 refl, (tell 5 refl, (tell 5 refl, (tell 6 refl, (tell 7 refl, (tell 8 refl, tt)))))))))
 
 shot-is-not : (x : Numbers) → NotEleven (plainShotText (shotOf x))
 unfolding shotOf decimalText decimal decimalIn
 shot-is-not x =
     holds-decided (λ (v : Values). NotEleven (plainShotText v)) (tests x) (answerOf x) refused
     (differs 0 (plainShotText (answerOf x)) refl)
-    (tell 2 refl, (tell 3 refl, (tell 4 refl, (tell 5 refl, (tell 6 refl, (tell 7 refl, (tell 8 refl, tt)))))))
+    (tell 2 refl, (tell 3 refl, (tell 4 refl, (tell 5 refl, (tell 5 refl, (tell 6 refl, (tell 7 refl, (tell 8 refl, tt))))))))
 
 answer-is-not : (a : Command) (c : Card) → NotEleven (answerText a c)
 unfolding decimalText decimal decimalIn
@@ -93,9 +95,15 @@ answer-is-not (Hear f z) c = hear-is-not c f z
 answer-is-not (Read f) c = read-is-not c f
 answer-is-not (Confirm f) c = confirm-is-not c f
 answer-is-not Shoot c = card-shot-is-not c
-answer-is-not (ShootPlain x) c = shot-is-not x
 answer-is-not Malformed c = tell 14 refl
 
+-- (b: whether the numbers are ten)
+plain-is-not : (b : Bool) (x : Numbers) → NotEleven (cond b (plainShotText (shotOf x)) (refusalText 14))
+unfolding decimalText decimal decimalIn
+plain-is-not true x = shot-is-not x
+plain-is-not false x = tell 14 refl
+
 pub never-eleven : (p : Protocol) (c : Card) (l : List ℕ) → reply p c l ≢ refusalText 11 ++ (10 ∷ [])
-unfolding reply
-never-eleven p c l = answer-is-not (commandOf p l) c
+unfolding reply plainReply
+never-eleven Session c l = answer-is-not (sessionCommand l) c
+never-eleven Batch c l = plain-is-not (eqb (length (Lines.numbersOf 18 l)) 10) _

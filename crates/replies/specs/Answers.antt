@@ -5,17 +5,21 @@ use mathlib.Core.Bool.{cond}
 use mathlib.Core.List.{List, [], _∷_, _++_}
 use lib.Dec.{eqb}
 use lib.IntN.{ℤ}
+use lib.ListN.{length}
 use Rattle.refusal.specs.Tests.{decided}
 use Rattle.digits.specs.Text.{text}
 use Rattle.card.specs.declared.Card.{Card}
-use Rattle.card.specs.Fields.{numberIn, fieldOf}
+use Rattle.card.specs.Fields.{numberIn, fieldCount, fieldOf}
 use Rattle.card.specs.Calls.{hearing, confirming, heldTests, readCard}
+use Rattle.fieldbook.specs.Shot as Book
 use Rattle.fieldbook.specs.Shot.{Values, shotOf, cardShot}
+use Rattle.lines.specs.Numbers.{numbersOf}
 use Rattle.lines.specs.Writing.{decimalText}
 use Rattle.replies.specs.declared.Command.{Command}
-use Rattle.replies.specs.declared.Command.the-variants.{Hear, Read, Confirm, Shoot, ShootPlain, Malformed}
+use Rattle.replies.specs.declared.Command.the-variants.{Hear, Read, Confirm, Shoot, Malformed}
 use Rattle.replies.specs.declared.Protocol.{Protocol}
-use Rattle.replies.specs.Commands.{commandOf}
+use Rattle.replies.specs.declared.Protocol.the-variants.{Session, Batch}
+use Rattle.replies.specs.Commands.{sessionCommand}
 
 -- the most bytes that an answer takes, without its newline
 abbrev pub longest : ℕ
@@ -56,13 +60,16 @@ shotText v = cond (eqb (v .refusal) 0) (directionText v) (refusalText (v .refusa
 abbrev pub plainShotText : Values → List ℕ
 plainShotText v = cond (eqb (v .refusal) 0) (directionText v ++ furtherText v) (refusalText (v .refusal))
 
+-- of the numbers of a line: one for each field, in the order of the card, is a shot
+abbrev pub plainText : List ℤ → List ℕ
+plainText l = cond (eqb (length l) fieldCount) (plainShotText (shotOf (Book.numbersOf l))) (refusalText 14)
+
 -- A COMMAND: its answer, and the card afterwards
 abbrev pub answerText : Command → Card → List ℕ
 answerText (Hear f n) c = verdictText (hearing c f n .refusal)
 answerText (Read f) c = readText c f
 answerText (Confirm f) c = verdictText (confirming c f .refusal)
 answerText Shoot c = shotText (cardShot c)
-answerText (ShootPlain n) c = plainShotText (shotOf n)
 answerText Malformed c = refusalText 14
 
 abbrev pub cardAfter : Command → Card → Card
@@ -70,12 +77,17 @@ cardAfter (Hear f n) c = hearing c f n .card
 cardAfter (Read f) c = cardRead c f
 cardAfter (Confirm f) c = confirming c f .card
 cardAfter Shoot c = c
-cardAfter (ShootPlain n) c = c
 cardAfter Malformed c = c
 
--- A LINE of a program: its answer with the newline, and the card afterwards
+-- A LINE of the batch, of numbers of 1 to 18 digits: its answer with the newline
+unfoldable pub plainReply : List ℕ → List ℕ
+plainReply l = plainText (numbersOf 18 l) ++ (10 ∷ [])
+
+-- A LINE of a program: its answer with the newline, and the card afterwards, which the batch does not touch
 unfoldable pub reply : Protocol → Card → List ℕ → List ℕ
-reply p c l = answerText (commandOf p l) c ++ (10 ∷ [])
+reply Session c l = answerText (sessionCommand l) c ++ (10 ∷ [])
+reply Batch c l = plainReply l
 
 unfoldable pub next : Protocol → Card → List ℕ → Card
-next p c l = cardAfter (commandOf p l) c
+next Session c l = cardAfter (sessionCommand l) c
+next Batch c l = c

@@ -1,25 +1,27 @@
 // The line protocols of the two programs: what a line asks, and what it is answered.
 use card::Answer;
 use card::Card;
-use card::Numbers;
 use card::Reading;
 use fieldbook::Angles;
 use fieldbook::Outcome;
 use lines::Row;
 use refusal::Refusal;
 use refusal::Verdict;
+use sine::SineTable;
 ghost use mathlib.Core.Path.{_≡_};
 ghost use Prim.Native.Nat.{suc, _+_, _≤_};
 ghost use mathlib.Core.List.{_++_};
 ghost use lib.ListN.{length};
+ghost use Rattle.sine.specs.Sine.{entries};
 ghost use Rattle.lines.specs.Numbers.{listed};
 ghost use Rattle.lines.specs.Writing.{Appends};
-ghost use Rattle.replies.specs.Commands.{fieldCommand, spoken, sessionCommand, plainShot, commandOf};
+ghost use Rattle.replies.specs.Commands.{fieldCommand, spoken, sessionCommand};
+ghost use Rattle.replies.specs.declared.Protocol.the-variants.{Session};
 ghost use Rattle.card.specs.Calls as Calls;
 ghost use Rattle.refusal.specs.Numbers.{numberOf, verdictNumber};
 ghost use Rattle.fieldbook.specs.Shot.{valuesOf};
 ghost use Rattle.fieldbook.specs.declared.Outcome.the-variants.{Answered};
-ghost use Rattle.replies.specs.Answers.{longest, labelled, refusalText, verdictText, readText, cardRead, directionText, furtherText, shotText, plainShotText, answerText, cardAfter, reply, next};
+ghost use Rattle.replies.specs.Answers.{longest, labelled, refusalText, verdictText, readText, cardRead, directionText, furtherText, shotText, plainShotText, plainText, answerText, cardAfter, plainReply, reply, next};
 
 // The most digits of a number in a line of the session, and of the batch.
 const SESSION_DIGITS: usize = 9;
@@ -37,13 +39,12 @@ pub enum Protocol {
     Batch,
 }
 
-// What a line asks.
+// What a line of the session asks.
 pub enum Command {
     Hear(i64, i64),
     Read(i64),
     Confirm(i64),
     Shoot,
-    ShootPlain(Numbers),
     Malformed,
 }
 
@@ -83,8 +84,8 @@ fn spoken_command(letter: u8, row: Row) -> Command
     Command::Malformed
 }
 
-// A line of the session, without its newline.
-fn session_command(line: &[u8]) -> Command
+// What a line of the session asks, given without its newline.
+pub fn session_command(line: &[u8]) -> Command
     ensures { λ r. ⌜ r ≡ sessionCommand (now (line .entry)) ⌝ }
 {
     if line.len() == 0 {
@@ -101,38 +102,6 @@ fn session_command(line: &[u8]) -> Command
         return Command::Malformed;
     }
     spoken_command(letter, lines::numbers_of(&line[2..], SESSION_DIGITS))
-}
-
-// Ten numbers, in the order of the card.
-fn plain_command(row: Row) -> Command
-    ensures { λ r. ⌜ r ≡ plainShot (listed row) ⌝ }
-{
-    let numbers = row.numbers;
-    if row.count < 10 {
-        return Command::Malformed;
-    }
-    Command::ShootPlain(Numbers {
-        year: numbers[0],
-        month: numbers[1],
-        day: numbers[2],
-        hour: numbers[3],
-        minute: numbers[4],
-        millisecond: numbers[5],
-        dut1: numbers[6],
-        latitude: numbers[7],
-        longitude: numbers[8],
-        body: numbers[9],
-    })
-}
-
-// What a line of a program asks.
-pub fn command_of(protocol: Protocol, line: &[u8]) -> Command
-    ensures { λ r. ⌜ r ≡ commandOf protocol (now (line .entry)) ⌝ }
-{
-    match protocol {
-        Protocol::Session => session_command(line),
-        Protocol::Batch => plain_command(lines::numbers_of(line, BATCH_DIGITS)),
-    }
 }
 
 // Appends a label and a number.
@@ -237,6 +206,23 @@ fn append_plain_shot(out: &mut [u8], at: usize, shot: Outcome) -> usize
     }
 }
 
+// Appends the answer to plain numbers: a shot where there is one for each field, in the order of the card.
+fn append_plain(t: &SineTable, row: Row, out: &mut [u8], at: usize) -> usize
+    requires { ⌜ (at + longest ≤ length (now out)) × (now t ≡ entries) ⌝ }
+    ensures { λ r. ⌜ Appends (now (out .entry)) at (plainText (listed row)) (now (out .exit)) r ⌝ }
+    ensures { λ r. ⌜ r ≤ at + longest ⌝ }
+{
+    let numbers = row.numbers;
+    if row.count < card::FIELDS {
+        return append_refusal(out, at, Refusal::Malformed);
+    }
+    append_plain_shot(
+        out,
+        at,
+        fieldbook::shot_with(t, fieldbook::numbers_of(numbers)),
+    )
+}
+
 // Reads a field out. A part of the buffer that has room for every number of 64 bits is lent, so that the reading always has room.
 fn read_out(card: Card, field: i64, out: &mut [u8], at: usize) -> Reply
     requires { ⌜ at + longest ≤ length (now out) ⌝ }
@@ -258,9 +244,9 @@ fn read_out(card: Card, field: i64, out: &mut [u8], at: usize) -> Reply
     }
 }
 
-// Does what a command asks, and appends its answer.
-fn obey(command: Command, card: Card, out: &mut [u8], at: usize) -> Reply
-    requires { ⌜ at + longest ≤ length (now out) ⌝ }
+// Does what a command asks, and appends its answer. The sine's table is lent.
+fn obey(t: &SineTable, command: Command, card: Card, out: &mut [u8], at: usize) -> Reply
+    requires { ⌜ (at + longest ≤ length (now out)) × (now t ≡ entries) ⌝ }
     ensures { λ r. ⌜ r .card ≡ cardAfter command card ⌝ }
     ensures { λ r. ⌜ Appends (now (out .entry)) at (answerText command card) (now (out .exit)) (r .end) ⌝ }
     ensures { λ r. ⌜ r .end ≤ at + longest ⌝ }
@@ -270,19 +256,12 @@ fn obey(command: Command, card: Card, out: &mut [u8], at: usize) -> Reply
         Command::Read(field) => read_out(card, field, out, at),
         Command::Confirm(field) => append_answer(out, at, card::confirm(card, field)),
         Command::Shoot => {
-            let r = fieldbook::shot_from_card(card);
+            let r = fieldbook::shot_from_card_with(t, card);
             let kept = r.card;
             let outcome = r.outcome;
             let end = append_shot(out, at, outcome);
             Reply {
                 card: kept,
-                end: end,
-            }
-        }
-        Command::ShootPlain(numbers) => {
-            let end = append_plain_shot(out, at, fieldbook::shot(numbers));
-            Reply {
-                card: card,
                 end: end,
             }
         }
@@ -296,18 +275,28 @@ fn obey(command: Command, card: Card, out: &mut [u8], at: usize) -> Reply
     }
 }
 
-// Answers a line of a program, given without its newline: appends the answer and a newline.
-pub fn answer(protocol: Protocol, card: Card, line: &[u8], out: &mut [u8], at: usize) -> Reply
-    requires { ⌜ at + suc longest ≤ length (now out) ⌝ }
-    ensures { λ r. ⌜ r .card ≡ next protocol card (now (line .entry)) ⌝ }
-    ensures { λ r. ⌜ Appends (now (out .entry)) at (reply protocol card (now (line .entry))) (now (out .exit)) (r .end) ⌝ }
+// Answers a line of the session, given without its newline: appends the answer and a newline.
+pub fn answer(t: &SineTable, card: Card, line: &[u8], out: &mut [u8], at: usize) -> Reply
+    requires { ⌜ (at + suc longest ≤ length (now out)) × (now t ≡ entries) ⌝ }
+    ensures { λ r. ⌜ r .card ≡ next Session card (now (line .entry)) ⌝ }
+    ensures { λ r. ⌜ Appends (now (out .entry)) at (reply Session card (now (line .entry))) (now (out .exit)) (r .end) ⌝ }
     ensures { λ r. ⌜ r .end ≤ at + suc longest ⌝ }
 {
-    let r = obey(command_of(protocol, line), card, out, at);
+    let r = obey(t, session_command(line), card, out, at);
     let after = r.card;
     let end = lines::append_bytes(out, r.end, b"\n");
     Reply {
         card: after,
         end: end,
     }
+}
+
+// Answers a line of the batch, and returns where the answer's newline ends. No card has a part in it, so none is handed about.
+pub fn answer_plain(t: &SineTable, line: &[u8], out: &mut [u8], at: usize) -> usize
+    requires { ⌜ (at + suc longest ≤ length (now out)) × (now t ≡ entries) ⌝ }
+    ensures { λ r. ⌜ Appends (now (out .entry)) at (plainReply (now (line .entry))) (now (out .exit)) r ⌝ }
+    ensures { λ r. ⌜ r ≤ at + suc longest ⌝ }
+{
+    let end = append_plain(t, lines::numbers_of(line, BATCH_DIGITS), out, at);
+    lines::append_bytes(out, end, b"\n")
 }

@@ -1,7 +1,6 @@
 -- Document 01, "Polaris": R1, R2 and R3, and a direction turned by one of them. A direction is its three components, a turn its three rows.
 -- Assumes nothing.
 use mathlib.Core.List.{List, [], _∷_, map}
-use Prim.Native.Nat.{ℕ}
 use lib.IntN.{ℤ, pos, negℤ, _+ℤ_, _*ℤ_}
 use Rattle.exact.specs.Angle.{reduced}
 use Rattle.exact.specs.Division.{nearest}
@@ -13,18 +12,19 @@ dot [] ys = pos 0
 dot (x ∷ xs) [] = pos 0
 dot (x ∷ xs) (y ∷ ys) = x *ℤ y +ℤ dot xs ys
 
--- "Each component is the exact sum of two products, over R, to nearest." The axis' own row has R in its place, so that its component stays (`turned-1`).
+-- a component is the sum of its row's products, divided by R and rounded once. The axis' own row has R in its place, so that its component
+-- stays (`turned-1`).
 unfoldable pub turned : List (List ℤ) → List ℤ → List ℤ
 turned m d = map (λ row. nearest (dot row d) R) m
 
--- "Any angle is reduced before Sin or Cos."
+-- Sin and Cos of an angle that may lie outside of a turn
 abbrev pub sinOf : ℤ → ℤ
 sinOf a = Sin (reduced a)
 
 abbrev pub cosOf : ℤ → ℤ
 cosOf a = Cos (reduced a)
 
--- "R1(a): y' = y cos a + z sin a, z' = −y sin a + z cos a."
+-- R1(a), the turn about the first axis
 unfoldable pub rotation1 : ℤ → List (List ℤ)
 rotation1 a =
     (pos R ∷ pos 0 ∷ pos 0 ∷ [])
@@ -32,7 +32,7 @@ rotation1 a =
     ∷ (pos 0 ∷ negℤ (sinOf a) ∷ cosOf a ∷ [])
     ∷ []
 
--- "R2(a): x' = x cos a − z sin a, z' = x sin a + z cos a."
+-- R2(a), about the second
 unfoldable pub rotation2 : ℤ → List (List ℤ)
 rotation2 a =
     (cosOf a ∷ pos 0 ∷ negℤ (sinOf a) ∷ [])
@@ -40,14 +40,10 @@ rotation2 a =
     ∷ (sinOf a ∷ pos 0 ∷ cosOf a ∷ [])
     ∷ []
 
--- "R3(a): x' = x cos a + y sin a, y' = −x sin a + y cos a."
+-- R3(a), about the third
 unfoldable pub rotation3 : ℤ → List (List ℤ)
 rotation3 a =
     (cosOf a ∷ sinOf a ∷ pos 0 ∷ [])
     ∷ (negℤ (sinOf a) ∷ cosOf a ∷ pos 0 ∷ [])
     ∷ (pos 0 ∷ pos 0 ∷ pos R ∷ [])
     ∷ []
-
--- "Vector: (Cos s, Sin s, 0) turned by R1(−ε)", of a longitude s, reduced
-unfoldable pub fromEcliptic : ℕ → ℤ → List ℤ
-fromEcliptic s ε = turned (rotation1 (negℤ ε)) (Cos s ∷ Sin s ∷ pos 0 ∷ [])

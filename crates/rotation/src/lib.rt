@@ -1,12 +1,10 @@
 // Directions and their turns: document 01, "Polaris". A direction has three components in units of 1 / 1,000,000,000; a turn has three rows.
 // Both go by value.
 ghost use mathlib.Core.Path.{_≡_};
-ghost use Prim.Native.Nat.{_+_, _≤_, _<_, _^_};
+ghost use Prim.Native.Nat.{_+_, _≤_, _^_};
 ghost use lib.IntN.{natAbs, negℤ};
-ghost use Rattle.exact.specs.Angle.{turn};
 ghost use Rattle.sine.specs.Sine.{R, entries};
-ghost use Rattle.sine.specs.Promises.{circleMost};
-ghost use Rattle.rotation.specs.Rotation.{dot, turned, sinOf, cosOf, rotation1, rotation2, rotation3, fromEcliptic};
+ghost use Rattle.rotation.specs.Rotation.{dot, turned, sinOf, cosOf, rotation1, rotation2, rotation3};
 ghost use Rattle.rotation.specs.Length.{Bounded, Rotation, squaredLength, reach, growth, componentMost, sumMost};
 use sine::SineTable;
 
@@ -27,10 +25,10 @@ struct Sines {
 }
 
 fn sines_of(t: &SineTable, a: i64) -> Sines
-    requires { ⌜ now t ≡ entries ⌝ }
+    requires { ⌜ (now t ≡ entries) × (natAbs a ≤ 2 ^ 61) ⌝ }
     ensures { λ r. ⌜ (r .cos ≡ cosOf a) × (r .sin ≡ sinOf a) × (r .minus ≡ negℤ (sinOf a)) ⌝ }
 {
-    let b = exact::reduced(a);
+    let b = exact::reduced_bounded(a);
     let s = sine::sin(t, b);
     Sines {
         cos: sine::cos(t, b),
@@ -41,7 +39,7 @@ fn sines_of(t: &SineTable, a: i64) -> Sines
 
 // R1(a): a turn by a, in units of 0.0001 second of arc, about the first axis.
 pub fn about_x(t: &SineTable, a: i64) -> Turn
-    requires { ⌜ now t ≡ entries ⌝ }
+    requires { ⌜ (now t ≡ entries) × (natAbs a ≤ 2 ^ 61) ⌝ }
     ensures { λ r. ⌜ (r ≡ rotation1 a) × Rotation r ⌝ }
 {
     let k = sines_of(t, a);
@@ -50,7 +48,7 @@ pub fn about_x(t: &SineTable, a: i64) -> Turn
 
 // R2(a): a turn by a about the second axis.
 pub fn about_y(t: &SineTable, a: i64) -> Turn
-    requires { ⌜ now t ≡ entries ⌝ }
+    requires { ⌜ (now t ≡ entries) × (natAbs a ≤ 2 ^ 61) ⌝ }
     ensures { λ r. ⌜ (r ≡ rotation2 a) × Rotation r ⌝ }
 {
     let k = sines_of(t, a);
@@ -59,7 +57,7 @@ pub fn about_y(t: &SineTable, a: i64) -> Turn
 
 // R3(a): a turn by a about the third axis.
 pub fn about_z(t: &SineTable, a: i64) -> Turn
-    requires { ⌜ now t ≡ entries ⌝ }
+    requires { ⌜ (now t ≡ entries) × (natAbs a ≤ 2 ^ 61) ⌝ }
     ensures { λ r. ⌜ (r ≡ rotation3 a) × Rotation r ⌝ }
 {
     let k = sines_of(t, a);
@@ -83,14 +81,4 @@ pub fn apply(m: Turn, d: Direction) -> Direction
     let y = exact::nearest_div(dot(m[1], d), RADIUS);
     let z = exact::nearest_div(dot(m[2], d), RADIUS);
     [x, y, z]
-}
-
-// The direction of a point of the ecliptic in the frame of the equator: (Cos, Sin, 0) of its longitude, reduced, turned by R1(−obliquity).
-// The Sun's vector of document 01.
-pub fn from_ecliptic(t: &SineTable, longitude: u64, obliquity: i64) -> Direction
-    requires { ⌜ (now t ≡ entries) × (longitude < turn) × (natAbs obliquity < 2 ^ 40) ⌝ }
-    ensures { λ r. ⌜ (r ≡ fromEcliptic longitude obliquity) × (squaredLength r ≤ circleMost + growth) ⌝ }
-{
-    let d = [sine::cos(t, longitude), sine::sin(t, longitude), 0];
-    apply(about_x(t, -obliquity), d)
 }

@@ -8,7 +8,7 @@ use Rattle.exact.specs.Angle.{Q, reduced}
 use Rattle.exact.proofs.Differences.{split, zs}
 use Rattle.exact.proofs.Turn.{reduced-part}
 use Rattle.sine.specs.Sine.{Sin, Cos}
-use Rattle.series.specs.Term.{Part, amplitude, part, angleOf, value}
+use Rattle.series.specs.Term.{Part, amplitudeOf, part, angleOf, value}
 use Rattle.series.specs.Written.{term}
 
 pub cosine-is : (z : ℤ) → Sin (reduced (z +ℤ pos Q)) ≡ Cos (reduced z)
@@ -17,14 +17,15 @@ cosine-is z = ap Sin (sym (reduced-part z (pos Q)))
 
 -- so a term with a quadrant more in its phase is its amplitude times the cosine of the angle without it
 pub cosine-term : (arguments : List ℤ) (q c0 c1 c2 phase : ℤ) (first second third : Part)
-    → value Sin arguments q (term c0 c1 c2 (phase +ℤ pos Q) first second third)
-    ≡ amplitude c0 c1 c2 q *ℤ Cos (reduced (phase +ℤ part arguments first +ℤ part arguments second +ℤ part arguments third))
+    → let t = term c0 c1 c2 (phase +ℤ pos Q) first second third in
+    value Sin arguments q t ≡ amplitudeOf t q *ℤ Cos (reduced (phase +ℤ part arguments first +ℤ part arguments second +ℤ part arguments third))
 unfolding value angleOf
 cosine-term arguments q c0 c1 c2 phase first second third =
+    let t = term c0 c1 c2 (phase +ℤ pos Q) first second third in
     let a = part arguments first in
     let b = part arguments second in
     let c = part arguments third in
-    ap (λ (z : ℤ). amplitude c0 c1 c2 q *ℤ z) (ap (λ (z : ℤ). Sin (reduced z)) (behind phase (pos Q) a b c) ∙ cosine-is (phase +ℤ a +ℤ b +ℤ c))
+    ap (λ (z : ℤ). amplitudeOf t q *ℤ z) (ap (λ (z : ℤ). Sin (reduced z)) (behind phase (pos Q) a b c) ∙ cosine-is (phase +ℤ a +ℤ b +ℤ c))
   where
     behind : (p k a b c : ℤ) → p +ℤ k +ℤ a +ℤ b +ℤ c ≡ p +ℤ a +ℤ b +ℤ c +ℤ k
     behind p k a b c = rw (split p, split k, split a, split b, split c) (simp zs (omega arith))

@@ -1,4 +1,6 @@
-pub mod Sizes
 pub mod Sums
+pub mod Loops
+pub mod Rows
+pub mod Sizes
 pub mod SumBound
 pub mod Cosine

@@ -1,105 +1,109 @@
--- How large a term's numbers are: what the test `small` says, and the bounds that keep every step within 64 bits.
+-- The bounds of rows at work: a multiple of an argument is small, and the rows of a part of a table keep what each row of the table has. What a sum asks
+-- of a table follows from one test that antt computes.
 -- Assumes nothing.
-use mathlib.Core.Path.{_≡_, refl, sym, subst}
-use mathlib.Core.Bool.{Bool, true, _&&_}
-use Prim.Native.Nat.{ℕ, _+_, _*_, _^_, _≤_, _<_}
-use native.Mathlib.Nat.{le-refl, mul-le-mul-left}
+use mathlib.Core.Path.{_≡_, subst⁻¹, _∙_}
+use mathlib.Core.Bool.{Bool, _&&_}
+use mathlib.Core.List.{List, [], _++_}
+use Prim.Native.Nat.{ℕ, _+_, _^_, _≤_, _<_}
 use native.Mathlib.Omega.{arith}
-use lib.Dec.{T, leb, ltb, leb→le, ltb→lt, lit<}
-use lib.IntN.{ℤ, pos, natAbs, _+ℤ_, _*ℤ_}
-use mir.Syntax.{w64}
-use mir.Val.{SFits}
-use Rattle.exact.specs.Division.{floorDiv}
-use Rattle.exact.proofs.Differences.{split, zs}
-use Rattle.exact.proofs.Division.{floor-abs}
-use Rattle.exact.proofs.Integers.{abs-*, abs-*-le}
-use Rattle.exact.proofs.Machine.{fits-le}
-use Rattle.exact.proofs.Table.{and-l, and-r}
-use Rattle.series.specs.Term.{Part, Term, amplitude}
-use Rattle.series.specs.Sum.{smallPart, small}
+use lib.Dec.{T, leb, ltb, leb→le, ltb→lt}
+use lib.IntN.{ℤ, pos, natAbs, _*ℤ_}
+use lib.ListN.{length, getD, take, drop, length-drop}
+use lib.Seq.{getD-take, getD-drop, length-take-le}
+use lib.Signed.{leZ, leZ-yes}
+use Rattle.exact.specs.Angle.{turn, Angles}
+use Rattle.exact.proofs.Integers.{abs-*-le}
+use Rattle.exact.proofs.Table.{and-l, and-r, allBelow, below-all}
+use Rattle.secular.specs.Sizes.{largest}
+use Rattle.sine.specs.Sine.{entries}
+use Rattle.series.specs.Sum.{weights}
+use Rattle.series.specs.Rows.{number, place, steadyTerms, varyingTerms}
+use Rattle.series.specs.Sizes.{Each, AtMost, steadyBounds, varyingBounds, heaviest, Placed, counts, SteadyReady, VaryingRow, VaryingReady}
 
--- ---- what the test says
-pub record SmallPart (k : ℕ) (p : Part) : Type 0 where
-  pub times : natAbs (p .times) ≤ 255
-  pub place : p .place < k
+pub multiple-le : (x a : ℤ) → natAbs x ≤ 255 → natAbs a < turn → natAbs (x *ℤ a) ≤ 2 ^ 42
+multiple-le x a h k = omega (arith, abs-*-le x a 255 turn h (omega arith))
 
-pub record Small (k : ℕ) (t : Term) : Type 0 where
-  pub c0 : natAbs (t .c0) ≤ 2 ^ 28
-  pub c1 : natAbs (t .c1) ≤ 2 ^ 20
-  pub c2 : natAbs (t .c2) ≤ 2 ^ 20
-  pub phase : natAbs (t .phase) ≤ 2 ^ 35
-  pub first : SmallPart k (t .first)
-  pub second : SmallPart k (t .second)
-  pub third : SmallPart k (t .third)
+-- ---- a part of a table
+pub each-part : (P : List ℤ → Type 0) (rows : List (List ℤ)) (from n : ℕ) → from + n ≤ length rows → Each P rows → Each P (take n (drop from rows))
+each-part P rows from n h each i l =
+    let long : length (take n (drop from rows)) ≡ n = length-take-le n (drop from rows) (rw (length-drop from rows) (omega arith)) in
+    subst⁻¹ P (getD-take n (drop from rows) i [] (omega arith) ∙ getD-drop from rows i []) (each (from + i) (omega arith))
 
-small-part : (k : ℕ) (p : Part) → T (smallPart k p) → SmallPart k p
-small-part k p h =
-    let a = leb (natAbs (p .times)) 255 in
-    let b = ltb (p .place) k in
-    record { times = leb→le _ _ (and-l a b h); place = ltb→lt _ _ (and-r a b h) }
+-- ---- the tests
+each : {A : Type 0} (P : List A → Type 0) (p : List A → Bool) → ((row : List A) → T (p row) → P row)
+    → (rows : List (List A)) → T (allBelow (λ i. p (getD rows i [])) (length rows)) → Each P rows
+each P p law rows t i h = law (getD rows i []) (below-all (λ i. p (getD rows i [])) (length rows) i t h)
 
-pub is-small : (k : ℕ) (t : Term) → small k t ≡ true → Small k t
-unfolding small
-is-small k t e =
-    let h = subst T (sym e) tt in
-    let c0 = leb (natAbs (t .c0)) (2 ^ 28) in
-    let c1 = leb (natAbs (t .c1)) (2 ^ 20) in
-    let c2 = leb (natAbs (t .c2)) (2 ^ 20) in
-    let phase = leb (natAbs (t .phase)) (2 ^ 35) in
-    let p = smallPart k (t .first) in
-    let q = smallPart k (t .second) in
-    let r = smallPart k (t .third) in
-    let l = and-l (c0 && (c1 && (c2 && phase))) (p && (q && r)) h in
-    let l₁ = and-r c0 (c1 && (c2 && phase)) l in
-    let l₂ = and-r c1 (c2 && phase) l₁ in
-    let m = and-r (c0 && (c1 && (c2 && phase))) (p && (q && r)) h in
-    let m₁ = and-r p (q && r) m in
+abbrev atMost : List ℕ → List ℤ → Bool
+atMost bounds row = allBelow (λ i. leb (natAbs (number row i)) (getD bounds i 0)) (length bounds)
+
+at-most : (bounds : List ℕ) (row : List ℤ) → T (atMost bounds row) → AtMost bounds row
+at-most bounds row t i h = leb→le _ _ (below-all (λ i. leb (natAbs (number row i)) (getD bounds i 0)) (length bounds) i t h)
+
+abbrev placed : ℕ → List ℕ → Bool
+placed k group = allBelow (λ i. ltb (place group i) k) 3
+
+is-placed : (k : ℕ) (group : List ℕ) → T (placed k group) → Placed k group
+is-placed k group t i h = ltb→lt _ _ (below-all (λ i. ltb (place group i) k) 3 i t h)
+
+abbrev varyingRow : ℕ → List ℤ → Bool
+varyingRow k row = atMost varyingBounds row && (leZ (pos 0) (number row 5) && ltb (natAbs (number row 5)) k)
+
+is-varying-row : (k : ℕ) (row : List ℤ) → T (varyingRow k row) → VaryingRow k row
+is-varying-row k row t =
+    let small = atMost varyingBounds row in
+    let natural = leZ (pos 0) (number row 5) in
+    let inside = ltb (natAbs (number row 5)) k in
+    let u = and-r small (natural && inside) t in
     record {
-      c0 = leb→le _ _ (and-l c0 (c1 && (c2 && phase)) l);
-      c1 = leb→le _ _ (and-l c1 (c2 && phase) l₁);
-      c2 = leb→le _ _ (and-l c2 phase l₂);
-      phase = leb→le _ _ (and-r c2 phase l₂);
-      first = small-part k (t .first) (and-l p (q && r) m);
-      second = small-part k (t .second) (and-l q r m₁);
-      third = small-part k (t .third) (and-r q r m₁);
+      small = at-most varyingBounds row (and-l small (natural && inside) t);
+      natural = leZ-yes (and-l natural inside u);
+      placed = ltb→lt _ _ (and-r natural inside u);
     }
 
--- ---- an amplitude
-module _ (c0 c1 c2 q : ℤ) (hq : natAbs q ≤ 1500000) where
-  pub square-le : natAbs (q *ℤ q) ≤ 2250000000000
-  square-le = abs-*-le q q 1500000 1500000 hq hq
+-- ---- what a sum over k arguments asks of closed tables
+abbrev pub steadyTables : ℕ → List (List ℕ) → List (List ℤ) → Bool
+steadyTables k groups rows =
+    (allBelow (λ i. placed k (getD groups i [])) (length groups) && allBelow (λ i. atMost steadyBounds (getD rows i [])) (length rows))
+    && (leb (counts groups) (length rows) && leb (weights (steadyTerms groups rows)) heaviest)
 
-  pub linear-le : natAbs (c1 *ℤ q) ≤ natAbs c1 * 1500000
-  linear-le = rw (abs-* c1 q) (mul-le-mul-left (natAbs c1) hq)
+pub steady-ready : (k : ℕ) {table : List ℕ} {groups : List (List ℕ)} {rows : List (List ℤ)} {arguments : List ℤ} → table ≡ entries → Angles arguments
+    → length arguments ≡ k → T (steadyTables k groups rows) → SteadyReady table groups rows arguments
+steady-ready k {table} {groups} {rows} {arguments} t a l h =
+    let p = allBelow (λ i. placed k (getD groups i [])) (length groups) in
+    let r = allBelow (λ i. atMost steadyBounds (getD rows i [])) (length rows) in
+    let n = leb (counts groups) (length rows) in
+    let w = leb (weights (steadyTerms groups rows)) heaviest in
+    let tables = and-l (p && r) (n && w) h in
+    let sizes = and-r (p && r) (n && w) h in
+    record {
+      sines = t;
+      angles = a;
+      placed = rw l (each (Placed k) (placed k) (is-placed k) groups (and-l p r tables));
+      small = each (AtMost steadyBounds) (atMost steadyBounds) (at-most steadyBounds) rows (and-r p r tables);
+      enough = leb→le _ _ (and-l n w sizes);
+      light = leb→le _ _ (and-r n w sizes);
+    }
 
-  pub quadratic-le : natAbs (c2 *ℤ (q *ℤ q)) ≤ natAbs c2 * 2250000000000
-  quadratic-le = rw (abs-* c2 (q *ℤ q)) (mul-le-mul-left (natAbs c2) square-le)
+abbrev pub varyingTables : ℕ → List (List ℤ) → Bool
+varyingTables k rows = allBelow (λ i. varyingRow k (getD rows i [])) (length rows) && leb (weights (varyingTerms rows)) heaviest
 
-  linear-part : natAbs (floorDiv (c1 *ℤ q) (10 ^ 6)) ≤ 2 * natAbs c1
-  linear-part = floor-abs (c1 *ℤ q) (10 ^ 6) (2 * natAbs c1) (lit< tt) (omega (arith, linear-le))
+pub varying-ready : (k : ℕ) {table : List ℕ} {rows : List (List ℤ)} {arguments : List ℤ} {q : ℤ} → table ≡ entries → Angles arguments
+    → length arguments ≡ k → natAbs q ≤ largest → T (varyingTables k rows) → VaryingReady table rows arguments q
+varying-ready k {table} {rows} {arguments} {q} t a l m h =
+    let r = allBelow (λ i. varyingRow k (getD rows i [])) (length rows) in
+    let w = leb (weights (varyingTerms rows)) heaviest in
+    record {
+      sines = t;
+      angles = a;
+      moment = m;
+      each = rw l (each (VaryingRow k) (varyingRow k) (is-varying-row k) rows (and-l r w h));
+      light = leb→le _ _ (and-r r w h);
+    }
 
-  quadratic-part : natAbs (floorDiv (c2 *ℤ (q *ℤ q)) (10 ^ 12)) ≤ 3 * natAbs c2
-  quadratic-part = floor-abs (c2 *ℤ (q *ℤ q)) (10 ^ 12) (3 * natAbs c2) (lit< tt) (omega (arith, quadratic-le))
-
-  pub amplitude-le : natAbs (amplitude c0 c1 c2 q) ≤ natAbs c0 + 2 * natAbs c1 + 3 * natAbs c2
-  unfolding amplitude
-  amplitude-le = go c0 (floorDiv (c1 *ℤ q) (10 ^ 6)) (floorDiv (c2 *ℤ (q *ℤ q)) (10 ^ 12)) (natAbs c0) (2 * natAbs c1) (3 * natAbs c2) (le-refl _) linear-part quadratic-part
-    where
-      go : (a b c : ℤ) (k l m : ℕ) → natAbs a ≤ k → natAbs b ≤ l → natAbs c ≤ m → natAbs (a +ℤ b +ℤ c) ≤ k + l + m
-      go a b c k l m = rw (split a, split b, split c) (simp zs (omega arith))
-
-  -- each step of it, where the coefficients are small
-  pub steps-fit : natAbs c0 ≤ 2 ^ 28 → natAbs c1 ≤ 2 ^ 20 → natAbs c2 ≤ 2 ^ 20
-      → SFits w64 (c1 *ℤ q) × SFits w64 (q *ℤ q) × SFits w64 (c2 *ℤ (q *ℤ q)) × SFits w64 (c0 +ℤ floorDiv (c1 *ℤ q) (10 ^ 6))
-      × SFits w64 (amplitude c0 c1 c2 q)
-  unfolding amplitude
-  steps-fit h0 h1 h2 = (
-    fits-le (2 ^ 62) (c1 *ℤ q) (omega (arith, linear-le)) refl,
-    fits-le (2 ^ 62) (q *ℤ q) (omega (arith, square-le)) refl,
-    fits-le (2 ^ 62) (c2 *ℤ (q *ℤ q)) (omega (arith, quadratic-le)) refl,
-    two c0 (floorDiv (c1 *ℤ q) (10 ^ 6)) h0 (omega (arith, linear-part)),
-    fits-le (2 ^ 62) _ (omega (arith, amplitude-le)) refl,
-  )
-    where
-      two : (a b : ℤ) → natAbs a ≤ 2 ^ 28 → natAbs b ≤ 2 ^ 21 → SFits w64 (a +ℤ b)
-      two a b = rw (split a, split b) (simp zs (omega arith))
+-- both kinds of a series
+pub sum-ready : (k : ℕ) {table : List ℕ} {varying : List (List ℤ)} {groups : List (List ℕ)} {rows : List (List ℤ)} {arguments : List ℤ} {q : ℤ} → table ≡ entries
+    → Angles arguments → length arguments ≡ k → natAbs q ≤ largest → T (varyingTables k varying) → T (steadyTables k groups rows)
+    → T (leb (weights (varyingTerms varying ++ steadyTerms groups rows)) heaviest)
+    → VaryingReady table varying arguments q × SteadyReady table groups rows arguments × (weights (varyingTerms varying ++ steadyTerms groups rows) ≤ heaviest)
+sum-ready k t a l m v s w = (varying-ready k t a l m v, steady-ready k t a l s, leb→le _ _ w)

@@ -1,7 +1,7 @@
 -- THE LAW OF SUMS, for any list of terms: a sum with the table sine and the same sum with the polynomial, each divided by R once and rounded, are at most k
 -- units apart, where k·R is at least the sum of the weights times the sine's promise. So another list, or another table, changes a figure and no proof.
 -- Assumes nothing.
-use mathlib.Core.Path.{_≡_, refl, sym, subst}
+use mathlib.Core.Path.{_≡_}
 use mathlib.Core.List.{List, [], _∷_}
 use Prim.Native.Nat.{ℕ, _+_, _*_, _≤_, _<_}
 use native.Mathlib.Nat.{le-trans, mul-le-mul-right, mul-pos, le-of-lt}
@@ -11,15 +11,16 @@ use lib.IntN.{ℤ, pos, natAbs, _+ℤ_, _-ℤ_, _*ℤ_}
 use Rattle.exact.proofs.Differences.{split, zs}
 use Rattle.exact.proofs.Division.{Within, nearest-near}
 use Rattle.exact.proofs.Integers.{abs-*-le}
+use Rattle.secular.specs.Sizes.{largest}
 use Rattle.sine.specs.Polynomial.{polyDen}
-use Rattle.sine.specs.Sine.{R, Sin, polyAt}
+use Rattle.sine.specs.Sine.{R, Sin}
 use Rattle.sine.specs.Step.{promise}
 use Rattle.sine.proofs.SineBound.{den-pos, sine-within-promise}
 use Rattle.series.specs.Term.{Term, value, amplitudeOf, angleOf, weight}
 use Rattle.series.specs.Sum.{total, tableSum, polynomialSum, scaledP, weights}
 use Rattle.series.proofs.Sums.{amplitude-weight, angle-lt}
 
-module _ (arguments : List ℤ) (q : ℤ) (h : natAbs q ≤ 1500000) where
+module _ (arguments : List ℤ) (q : ℤ) (h : natAbs q ≤ largest) where
   -- one term: the amplitude times the sine's error
   factor : (a x y d : ℤ) → (a *ℤ x) *ℤ d -ℤ a *ℤ y ≡ a *ℤ (x *ℤ d -ℤ y)
   factor a x y d = rw (split a, split x, split y, split d) (simp zs (omega arith))
@@ -45,7 +46,7 @@ module _ (arguments : List ℤ) (q : ℤ) (h : natAbs q ≤ 1500000) where
       (weight t * (promise * polyDen)) (weights ts * (promise * polyDen)) (term-apart t) (sums-apart ts))
       (omega arith)
 
-  -- divided by R once, to nearest
+  -- one division by R
   scale : (z w : ℤ) (d n : ℕ) → natAbs (z *ℤ pos d -ℤ w) ≤ n → Within (pos (R * d) *ℤ z) (pos R *ℤ w) (R * n)
   scale z w d n = rw (split z, split w) (simp zs (omega arith))
 

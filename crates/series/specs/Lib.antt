@@ -1,3 +1,5 @@
 pub mod Term
 pub mod Sum
 pub mod Written
+pub mod Rows
+pub mod Sizes

@@ -1,73 +1,147 @@
 // Series: sums of amplitudes times sines, for any list of terms. Document 01, "The Sun".
 //
-// A term is a row of ten numbers: c0, c1, c2 of its amplitude in units, its phase in units, and up to three parts of its angle, each
-// a multiple and the place of an argument. A cosine is a term whose phase is a quadrant more.
+// A term whose amplitude is steady is a row of five numbers: amplitude and phase in units, and the multiples of three arguments. Rows
+// that share their arguments are a group, itself a row of four: the places of the arguments, and how many rows it has; the rows of all
+// groups stand one after the other. A term whose amplitude varies is a row of six: c0, c1, c2 and the phase in units, and the multiple
+// and the place of its one argument. A cosine is a term whose phase is a quadrant more.
 ghost use mathlib.Core.Path.{_≡_};
-ghost use mathlib.Core.Bool.{true};
-ghost use Prim.Native.Nat.{_+_, _*_, _≤_, _<_, _^_};
-ghost use lib.IntN.{pos, natAbs, _*ℤ_};
-ghost use lib.ListN.{length, getD};
-ghost use Rattle.exact.specs.Angle.{turn, Angles};
+ghost use mathlib.Core.List.{map, _++_};
+ghost use Prim.Native.Nat.{ℕ, _*_, _≤_, _<_, _^_};
+ghost use lib.IntN.{ℤ, natAbs, _*ℤ_};
+ghost use lib.ListN.{length};
+ghost use Rattle.exact.specs.Division.{nearest};
+ghost use Rattle.exact.specs.Angle.{turn, reduced, Angles};
+ghost use Rattle.secular.specs.Sizes.{largest};
 ghost use Rattle.sine.specs.Sine.{R, entries, Sin};
-ghost use Rattle.series.specs.Term.{amplitude, angleOf, value, weight, termOf};
-ghost use Rattle.series.specs.Sum.{total, tableSum, weights, small, termsOf, Ready};
+ghost use Rattle.series.specs.Term.{value};
+ghost use Rattle.series.specs.Sum.{total, tableSum, weights};
+ghost use Rattle.series.specs.Rows.{number, steadyAngle, steadyTerm, steadyTerms, varyingTerm, varyingTerms};
+ghost use Rattle.series.specs.Sizes.{heaviest, AtMost, steadyBounds, GroupReady, SteadyReady, VaryingRow, VaryingReady};
+use secular::Polynomial;
 use sine::SineTable;
 
 // What a sine of one is scaled to: document 01's R.
 pub const RADIUS: i64 = 1_000_000_000;
 
-// An amplitude at q.
-fn amplitude(c0: i64, c1: i64, c2: i64, q: i64) -> i64
-    requires { ⌜ ((natAbs c0 ≤ 2 ^ 28) × (natAbs c1 ≤ 2 ^ 20) × (natAbs c2 ≤ 2 ^ 20)) × (natAbs q ≤ 1500000) ⌝ }
-    ensures { λ r. ⌜ (r ≡ amplitude c0 c1 c2 q) × (natAbs r ≤ natAbs c0 + 2 * natAbs c1 + 3 * natAbs c2) ⌝ }
+// An amplitude times the sine of an angle that need not be reduced.
+fn product(t: &SineTable, amplitude: i64, angle: i64) -> i64
+    requires { ⌜ (now t ≡ entries) × (natAbs amplitude ≤ 2 ^ 29) × (natAbs angle ≤ 2 ^ 61) ⌝ }
+    ensures { λ r. ⌜ r ≡ amplitude *ℤ Sin (reduced angle) ⌝ }
 {
-    c0 + exact::floor_div(c1 * q, 1_000_000) + exact::floor_div(c2 * (q * q), 1_000_000_000_000)
+    amplitude * sine::sin(t, exact::reduced_bounded(angle))
 }
 
-// A multiple of an argument.
-fn part(times: i64, place: i64, arguments: &[i64]) -> i64
-    requires { ⌜ (natAbs times ≤ 255) × (natAbs place < length (now arguments)) × Angles (now arguments) ⌝ }
-    ensures { λ r. ⌜ (r ≡ times *ℤ getD (now (arguments .entry)) (natAbs place) (pos 0)) × (natAbs r < 2 ^ 42) ⌝ }
+// The product of a row whose arguments are a, b, c.
+fn steady_product(t: &SineTable, row: [i64; 5], a: i64, b: i64, c: i64) -> i64
+    requires { ⌜ (now t ≡ entries) × AtMost steadyBounds row × (natAbs a < turn) × (natAbs b < turn) × (natAbs c < turn) ⌝ }
+    ensures { λ r. ⌜ r ≡ number row 0 *ℤ Sin (reduced (steadyAngle row a b c)) ⌝ }
 {
-    let at = exact::magnitude(place) as usize;
-    times * arguments[at]
+    product(t, row[0], row[1] + row[2] * a + row[3] * b + row[4] * c)
 }
 
-// The angle of a term.
-fn angle(row: [i64; 10], arguments: &[i64]) -> u64
-    requires { ⌜ (small (length (now arguments)) (termOf row) ≡ true) × Angles (now arguments) ⌝ }
-    ensures { λ r. ⌜ (r ≡ angleOf (now (arguments .entry)) (termOf row)) × (r < turn) ⌝ }
+// The sum of the products of one group, whose arguments stand at i, j, k.
+fn group_sum(
+    t: &SineTable,
+    i: usize,
+    j: usize,
+    k: usize,
+    rows: &[[i64; 5]],
+    arguments: &[i64],
+) -> i64
+    requires { ⌜ GroupReady (now t) i j k (now rows) (now arguments) ⌝ }
+    ensures { λ r. ⌜ ((q : ℤ) → r ≡ total Sin (now (arguments .entry)) q (map (steadyTerm i j k) (now (rows .entry)))) ⌝ }
 {
-    let first = part(row[4], row[5], arguments);
-    let second = part(row[6], row[7], arguments);
-    let third = part(row[8], row[9], arguments);
-    exact::reduced(row[3] + first + second + third)
-}
-
-// The product of a term: its amplitude times the sine of its angle.
-fn product(t: &SineTable, row: [i64; 10], arguments: &[i64], q: i64) -> i64
-    requires { ⌜ ((now t ≡ entries) × (natAbs q ≤ 1500000)) × (small (length (now arguments)) (termOf row) ≡ true) × Angles (now arguments) ⌝ }
-    ensures { λ r. ⌜ (r ≡ value Sin (now (arguments .entry)) q (termOf row)) × (natAbs r ≤ R * weight (termOf row)) ⌝ }
-{
-    amplitude(row[0], row[1], row[2], q) * sine::sin(t, angle(row, arguments))
-}
-
-// The exact sum of the products of a list of terms.
-pub fn sum(t: &SineTable, terms: &[[i64; 10]], arguments: &[i64], q: i64) -> i64
-    requires { ⌜ Ready (now t) (now terms) (now arguments) q ⌝ }
-    ensures { λ r. ⌜ (r ≡ total Sin (now (arguments .entry)) q (termsOf (now (terms .entry)))) × (natAbs r ≤ R * weights (termsOf (now (terms .entry)))) ⌝ }
-{
+    let a = arguments[i];
+    let b = arguments[j];
+    let c = arguments[k];
     let mut sum: i64 = 0;
-    for i in 0..terms.len() {
-        sum += product(t, terms[i], arguments, q);
+    for n in 0..rows.len() {
+        sum += steady_product(t, rows[n], a, b, c);
     }
     sum
 }
 
-// The sum in units: divided by R once, to nearest.
-pub fn rounded_sum(t: &SineTable, terms: &[[i64; 10]], arguments: &[i64], q: i64) -> i64
-    requires { ⌜ Ready (now t) (now terms) (now arguments) q ⌝ }
-    ensures { λ r. ⌜ (r ≡ tableSum (now (arguments .entry)) q (termsOf (now (terms .entry)))) × (natAbs r ≤ weights (termsOf (now (terms .entry)))) ⌝ }
+// The exact sum of the terms whose amplitudes are steady, the same at every q.
+pub fn steady_sum(t: &SineTable, groups: &[[usize; 4]], rows: &[[i64; 5]], arguments: &[i64]) -> i64
+    requires { ⌜ SteadyReady (now t) (now groups) (now rows) (now arguments) ⌝ }
+    ensures { λ r. ⌜ ((q : ℤ) → r ≡ total Sin (now (arguments .entry)) q (steadyTerms (now (groups .entry)) (now (rows .entry)))) × (natAbs r ≤ R * weights (steadyTerms (now (groups .entry)) (now (rows .entry)))) ⌝ }
 {
-    exact::nearest_div(sum(t, terms, arguments, q), RADIUS)
+    let mut sum: i64 = 0;
+    let mut from: usize = 0;
+    for i in 0..groups.len() {
+        let group = groups[i];
+        let to = from + group[3];
+        sum += group_sum(t, group[0], group[1], group[2], &rows[from..to], arguments);
+        from = to;
+    }
+    sum
+}
+
+// The product of a row whose amplitude varies.
+fn varying_product(t: &SineTable, row: [i64; 6], arguments: &[i64], q: i64) -> i64
+    requires { ⌜ (now t ≡ entries) × Angles (now arguments) × (natAbs q ≤ largest) × VaryingRow (length (now arguments)) row ⌝ }
+    ensures { λ r. ⌜ r ≡ value Sin (now (arguments .entry)) q (varyingTerm row) ⌝ }
+{
+    let amplitude = Polynomial {
+        c0: row[0],
+        c1: row[1],
+        c2: row[2],
+        divisor: secular::SQUARE,
+    };
+    let place = row[5] as usize;
+    product(
+        t,
+        secular::value(amplitude, q),
+        row[3] + row[4] * arguments[place],
+    )
+}
+
+// The exact sum of the terms whose amplitudes vary, at q.
+fn varying_sum(t: &SineTable, rows: &[[i64; 6]], arguments: &[i64], q: i64) -> i64
+    requires { ⌜ VaryingReady (now t) (now rows) (now arguments) q ⌝ }
+    ensures { λ r. ⌜ (r ≡ total Sin (now (arguments .entry)) q (varyingTerms (now (rows .entry)))) × (natAbs r ≤ R * weights (varyingTerms (now (rows .entry)))) ⌝ }
+{
+    let mut sum: i64 = 0;
+    for i in 0..rows.len() {
+        sum += varying_product(t, rows[i], arguments, q);
+    }
+    sum
+}
+
+// The exact sum of a series at q: of the terms whose amplitudes vary, and then of the others.
+pub fn sum(
+    t: &SineTable,
+    varying: &[[i64; 6]],
+    groups: &[[usize; 4]],
+    rows: &[[i64; 5]],
+    arguments: &[i64],
+    q: i64,
+) -> i64
+    requires { ⌜ VaryingReady (now t) (now varying) (now arguments) q × SteadyReady (now t) (now groups) (now rows) (now arguments) ⌝ }
+    ensures { λ r. ⌜ (r ≡ total Sin (now (arguments .entry)) q (varyingTerms (now (varying .entry)) ++ steadyTerms (now (groups .entry)) (now (rows .entry)))) × (natAbs r ≤ R * weights (varyingTerms (now (varying .entry)) ++ steadyTerms (now (groups .entry)) (now (rows .entry)))) ⌝ }
+{
+    varying_sum(t, varying, arguments, q) + steady_sum(t, groups, rows, arguments)
+}
+
+// A sum in units: one division by R, to nearest.
+pub fn rounded(sum: i64) -> i64
+    requires { ⌜ natAbs sum ≤ R * heaviest ⌝ }
+    ensures { λ r. ⌜ (r ≡ nearest sum R) × ((k : ℕ) → natAbs sum ≤ R * k → natAbs r ≤ k) ⌝ }
+{
+    exact::nearest_div(sum, RADIUS)
+}
+
+// The sum of a series at q, in units.
+pub fn rounded_sum(
+    t: &SineTable,
+    varying: &[[i64; 6]],
+    groups: &[[usize; 4]],
+    rows: &[[i64; 5]],
+    arguments: &[i64],
+    q: i64,
+) -> i64
+    requires { ⌜ VaryingReady (now t) (now varying) (now arguments) q × SteadyReady (now t) (now groups) (now rows) (now arguments) × (weights (varyingTerms (now varying) ++ steadyTerms (now groups) (now rows)) ≤ heaviest) ⌝ }
+    ensures { λ r. ⌜ (r ≡ tableSum (now (arguments .entry)) q (varyingTerms (now (varying .entry)) ++ steadyTerms (now (groups .entry)) (now (rows .entry)))) × (natAbs r ≤ weights (varyingTerms (now (varying .entry)) ++ steadyTerms (now (groups .entry)) (now (rows .entry)))) ⌝ }
+{
+    rounded(sum(t, varying, groups, rows, arguments, q))
 }

@@ -3,9 +3,12 @@
 use libc::STDIN_FILENO;
 use libc::STDOUT_FILENO;
 use replies::Protocol;
+use sine::SineTable;
 use stream::State;
+ghost use mathlib.Core.Path.{_≡_};
 ghost use Prim.Native.Nat.{_≤_};
 ghost use lib.ListN.{length};
+ghost use Rattle.sine.specs.Sine.{entries};
 ghost use Rattle.stream.specs.Feeding.{room};
 
 const END_OF_SESSION: u8 = 4;
@@ -32,35 +35,36 @@ fn read_byte() -> Input {
 }
 
 // Answers what stands of the last line, and starts anew.
-fn end_session(state: State, out: &mut [u8]) -> State
-    requires { ⌜ room ≤ length (now out) ⌝ }
+fn end_session(t: &SineTable, state: State, out: &mut [u8]) -> State
+    requires { ⌜ (room ≤ length (now out)) × (now t ≡ entries) ⌝ }
 {
-    let end = stream::finish(Protocol::Session, state, out);
+    let end = stream::finish(t, Protocol::Session, state, out);
     io::write_all(STDOUT_FILENO, &out[..end]);
     io::write_all(STDOUT_FILENO, b"--\n");
     stream::start()
 }
 
 // The state after one byte.
-fn after_byte(state: State, byte: u8, out: &mut [u8]) -> State
-    requires { ⌜ room ≤ length (now out) ⌝ }
+fn after_byte(t: &SineTable, state: State, byte: u8, out: &mut [u8]) -> State
+    requires { ⌜ (room ≤ length (now out)) × (now t ≡ entries) ⌝ }
 {
     if byte == END_OF_SESSION {
-        return end_session(state, out);
+        return end_session(t, state, out);
     }
-    let fed = stream::feed(Protocol::Session, state, &[byte], out);
+    let fed = stream::feed(t, Protocol::Session, state, &[byte], out);
     let end = fed.end;
     io::write_all(STDOUT_FILENO, &out[..end]);
     fed.state
 }
 
 fn main() {
+    let t = sine::table();
     let mut out = [0u8; ROOM];
     let mut state = stream::start();
     for _ in 0..BYTES {
         let Input::Byte(byte) = read_byte() else {
             return;
         };
-        state = after_byte(state, byte, &mut out);
+        state = after_byte(&t, state, byte, &mut out);
     }
 }

@@ -36,12 +36,12 @@ fn wide(x: u32) -> u64
     x as u64
 }
 
-// The number at r units of a step from low to high, to nearest.
+// The number at r units of a step from low up to high, to nearest: low, and the share of what is between them.
 fn interpolate(low: u64, high: u64, r: u64) -> u64
-    requires { ⌜ (low ≤ R) × (high ≤ R) × (r ≤ step) ⌝ }
+    requires { ⌜ (low ≤ high) × (high ≤ R) × (r ≤ step) ⌝ }
     ensures { λ z. ⌜ z ≡ interpolated low high r ⌝ }
 {
-    (2 * (low * (STEP - r) + high * r) + STEP) / (2 * STEP)
+    low + ((high - low) * r + STEP / 2) / STEP
 }
 
 // Sin on the first quadrant, its end included.
@@ -109,7 +109,7 @@ fn search(t: &SineTable, x: u64, y: u64) -> u64
     let mut low: u64 = 0;
     let mut high: u64 = QUADRANT;
     while low + 1 < high {
-        let mid = low + (high - low) / 2;
+        let mid = (low + high) / 2;
         if passes_at(t, x, y, mid) {
             low = mid;
         } else {

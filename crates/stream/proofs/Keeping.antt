@@ -2,14 +2,13 @@
 use Prim.Native.Nat.{ℕ, suc, _+_, _<_, _≤_}
 use native.Mathlib.Omega.{arith}
 use native.Mathlib.Numerals.{add-one}
-use mathlib.Core.Path.{_≡_, refl, sym, ap, _∙_}
+use mathlib.Core.Path.{_≡_, sym}
 use mathlib.Core.List.{List, [], _∷_, _++_, append-assoc, append-nil}
 use lib.ListN.{length, take, drop, getD, set, length-take, drop-of-length-le}
 use lib.Seq.{take-all, take-at, take-suc-set, drop-cons}
 use Rattle.card.specs.declared.Card.{Card}
 use Rattle.replies.specs.declared.Protocol.{Protocol}
-use Rattle.replies.specs.declared.Command.{Command}
-use Rattle.replies.specs.Answers.{answerText, cardAfter, reply, next}
+use Rattle.replies.specs.Answers.{reply, next}
 use Rattle.replies.proofs.LongLines.{first-bytes}
 use Rattle.stream.specs.Feeding.{keptLength}
 
@@ -34,9 +33,7 @@ module _ (b : List ℕ) (full : length b ≡ keptLength) (n : ℕ) where
 -- what is kept of a line answers as the whole line does
 module _ (p : Protocol) (c : Card) (l : List ℕ) where
   pub reply-kept : reply p c (take keptLength l) ≡ reply p c l
-  unfolding reply
-  reply-kept = ap (λ (a : Command). answerText a c ++ (10 ∷ [])) (first-bytes p l)
+  reply-kept = first-bytes p c l .0
 
   pub next-kept : next p c (take keptLength l) ≡ next p c l
-  unfolding next
-  next-kept = ap (λ (a : Command). cardAfter a c) (first-bytes p l)
+  next-kept = first-bytes p c l .1

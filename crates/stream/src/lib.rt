@@ -3,13 +3,16 @@ use card::Card;
 use libc::STDIN_FILENO;
 use libc::STDOUT_FILENO;
 use replies::Protocol;
+use sine::SineTable;
 ghost use mathlib.Core.Path.{_≡_};
 ghost use mathlib.Core.List.{[], _++_};
 ghost use Prim.Native.Nat.{_+_, _*_, _≤_};
 ghost use lib.ListN.{length, take};
 ghost use Rattle.card.specs.Fields.{freshCard};
 ghost use Rattle.lines.specs.Writing.{Appends};
+ghost use Rattle.replies.specs.declared.Protocol.the-variants.{Session, Batch};
 ghost use Rattle.replies.specs.Answers.{reply, next};
+ghost use Rattle.sine.specs.Sine.{entries};
 ghost use Rattle.stream.specs.Feeding.{keptLength, held, chunkLength, room, lastReply, Feeds, Reached, Completes};
 
 // The bytes that are kept of an unfinished line: one more than the longest line has that is not malformed.
@@ -91,19 +94,19 @@ fn keep(kept: Kept, piece: &[u8]) -> Kept
     }
 }
 
-// Answers the line that a piece ends.
-fn end_line(protocol: Protocol, state: State, piece: &[u8], out: &mut [u8], at: usize) -> Fed
-    requires { ⌜ at + room ≤ length (now out) ⌝ }
-    ensures { λ r. ⌜ r .state .card ≡ next protocol (state .card) (held (state .kept) ++ now (piece .entry)) ⌝ }
+// Answers the line of the session that a piece ends.
+fn end_spoken(t: &SineTable, state: State, piece: &[u8], out: &mut [u8], at: usize) -> Fed
+    requires { ⌜ (at + room ≤ length (now out)) × (now t ≡ entries) ⌝ }
+    ensures { λ r. ⌜ r .state .card ≡ next Session (state .card) (held (state .kept) ++ now (piece .entry)) ⌝ }
     ensures { λ r. ⌜ held (r .state .kept) ≡ [] ⌝ }
-    ensures { λ r. ⌜ Appends (now (out .entry)) at (reply protocol (state .card) (held (state .kept) ++ now (piece .entry))) (now (out .exit)) (r .end) ⌝ }
+    ensures { λ r. ⌜ Appends (now (out .entry)) at (reply Session (state .card) (held (state .kept) ++ now (piece .entry))) (now (out .exit)) (r .end) ⌝ }
     ensures { λ r. ⌜ r .end ≤ at + room ⌝ }
 {
     let card = state.card;
     let kept = state.kept;
     let none = no_line();
     if kept.len == 0 {
-        let r = replies::answer(protocol, card, piece, out, at);
+        let r = replies::answer(t, card, piece, out, at);
         let after = r.card;
         let fresh = State {
             card: after,
@@ -117,7 +120,7 @@ fn end_line(protocol: Protocol, state: State, piece: &[u8], out: &mut [u8], at: 
     let line = keep(kept, piece);
     let bytes = line.bytes;
     let len = line.len;
-    let r = replies::answer(protocol, card, &bytes[..len], out, at);
+    let r = replies::answer(t, card, &bytes[..len], out, at);
     let after = r.card;
     let fresh = State {
         card: after,
@@ -126,6 +129,63 @@ fn end_line(protocol: Protocol, state: State, piece: &[u8], out: &mut [u8], at: 
     Fed {
         state: fresh,
         end: r.end,
+    }
+}
+
+// Answers the line of the batch that a piece ends. The card stays where it is.
+fn end_plain(t: &SineTable, state: State, piece: &[u8], out: &mut [u8], at: usize) -> Fed
+    requires { ⌜ (at + room ≤ length (now out)) × (now t ≡ entries) ⌝ }
+    ensures { λ r. ⌜ r .state .card ≡ next Batch (state .card) (held (state .kept) ++ now (piece .entry)) ⌝ }
+    ensures { λ r. ⌜ held (r .state .kept) ≡ [] ⌝ }
+    ensures { λ r. ⌜ Appends (now (out .entry)) at (reply Batch (state .card) (held (state .kept) ++ now (piece .entry))) (now (out .exit)) (r .end) ⌝ }
+    ensures { λ r. ⌜ r .end ≤ at + room ⌝ }
+{
+    let card = state.card;
+    let kept = state.kept;
+    if kept.len == 0 {
+        let end = replies::answer_plain(t, piece, out, at);
+        let fresh = State {
+            card: card,
+            kept: kept,
+        };
+        return Fed {
+            state: fresh,
+            end: end,
+        };
+    }
+    let line = keep(kept, piece);
+    let bytes = line.bytes;
+    let len = line.len;
+    let end = replies::answer_plain(t, &bytes[..len], out, at);
+    let none = no_line();
+    let fresh = State {
+        card: card,
+        kept: none,
+    };
+    Fed {
+        state: fresh,
+        end: end,
+    }
+}
+
+// Answers the line that a piece ends.
+fn end_line(
+    t: &SineTable,
+    protocol: Protocol,
+    state: State,
+    piece: &[u8],
+    out: &mut [u8],
+    at: usize,
+) -> Fed
+    requires { ⌜ (at + room ≤ length (now out)) × (now t ≡ entries) ⌝ }
+    ensures { λ r. ⌜ r .state .card ≡ next protocol (state .card) (held (state .kept) ++ now (piece .entry)) ⌝ }
+    ensures { λ r. ⌜ held (r .state .kept) ≡ [] ⌝ }
+    ensures { λ r. ⌜ Appends (now (out .entry)) at (reply protocol (state .card) (held (state .kept) ++ now (piece .entry))) (now (out .exit)) (r .end) ⌝ }
+    ensures { λ r. ⌜ r .end ≤ at + room ⌝ }
+{
+    match protocol {
+        Protocol::Session => end_spoken(t, state, piece, out, at),
+        Protocol::Batch => end_plain(t, state, piece, out, at),
     }
 }
 
@@ -144,8 +204,8 @@ fn keep_rest(state: State, piece: &[u8]) -> State
 }
 
 // Takes a chunk of input: answers each line that it ends, and keeps the rest.
-pub fn feed(protocol: Protocol, state: State, chunk: &[u8], out: &mut [u8]) -> Fed
-    requires { ⌜ length (now chunk) * room ≤ length (now out) ⌝ }
+pub fn feed(t: &SineTable, protocol: Protocol, state: State, chunk: &[u8], out: &mut [u8]) -> Fed
+    requires { ⌜ (length (now chunk) * room ≤ length (now out)) × (now t ≡ entries) ⌝ }
     ensures { λ r. ⌜ Feeds protocol state (now (chunk .entry)) (r .state) (take (r .end) (now (out .exit))) ⌝ }
     ensures { λ r. ⌜ r .end ≤ length (now (out .entry)) ⌝ }
 {
@@ -161,7 +221,7 @@ pub fn feed(protocol: Protocol, state: State, chunk: &[u8], out: &mut [u8]) -> F
                 end: end,
             };
         }
-        let fed = end_line(protocol, s, &chunk[from..stop], out, end);
+        let fed = end_line(t, protocol, s, &chunk[from..stop], out, end);
         s = fed.state;
         end = fed.end;
         from = stop + 1;
@@ -170,8 +230,8 @@ pub fn feed(protocol: Protocol, state: State, chunk: &[u8], out: &mut [u8]) -> F
 }
 
 // Answers the last line of the input, where it lacks its newline, and returns where the output ends.
-pub fn finish(protocol: Protocol, state: State, out: &mut [u8]) -> usize
-    requires { ⌜ room ≤ length (now out) ⌝ }
+pub fn finish(t: &SineTable, protocol: Protocol, state: State, out: &mut [u8]) -> usize
+    requires { ⌜ (room ≤ length (now out)) × (now t ≡ entries) ⌝ }
     ensures { λ r. ⌜ take r (now (out .exit)) ≡ lastReply protocol (state .card) (held (state .kept)) ⌝ }
     ensures { λ r. ⌜ r ≤ length (now (out .entry)) ⌝ }
 {
@@ -179,7 +239,7 @@ pub fn finish(protocol: Protocol, state: State, out: &mut [u8]) -> usize
     if kept_len(kept) == 0 {
         return 0;
     }
-    let fed = end_line(protocol, state, b"", out, 0);
+    let fed = end_line(t, protocol, state, b"", out, 0);
     fed.end
 }
 
@@ -191,29 +251,35 @@ struct Turn {
 
 // Reads once, and answers what came; nothing comes where the input has ended or cannot be read. No contract can say which bytes the system reads: here
 // they are what the call left at the front of `input`.
-fn feed_some(protocol: Protocol, state: State, input: &mut [u8], out: &mut [u8]) -> Turn
-    requires { ⌜ length (now input) * room ≤ length (now out) ⌝ }
+fn feed_some(
+    t: &SineTable,
+    protocol: Protocol,
+    state: State,
+    input: &mut [u8],
+    out: &mut [u8],
+) -> Turn
+    requires { ⌜ (length (now input) * room ≤ length (now out)) × (now t ≡ entries) ⌝ }
     ensures { λ r. ⌜ Feeds protocol state (take (r .came) (now (input .exit))) (r .fed .state) (take (r .fed .end) (now (out .exit))) ⌝ }
     ensures { λ r. ⌜ r .came ≤ length (now (input .entry)) ⌝ }
     ensures { λ r. ⌜ r .fed .end ≤ length (now (out .entry)) ⌝ }
 {
     let got = libc::read(STDIN_FILENO, input);
     let n = io::count(got, input);
-    let fed = feed(protocol, state, &input[..n], out);
+    let fed = feed(t, protocol, state, &input[..n], out);
     Turn { came: n, fed: fed }
 }
 
 // Reads to the input's end, and writes what each chunk made before it reads the next; a write that fails ends it too. No contract can say what the
 // system writes. A proved loop has to end, so this one counts its turns down from a number that no run uses up.
-fn feed_input(protocol: Protocol, out: &mut [u8]) -> State
-    requires { ⌜ chunkLength * room ≤ length (now out) ⌝ }
+fn feed_input(t: &SineTable, protocol: Protocol, out: &mut [u8]) -> State
+    requires { ⌜ (chunkLength * room ≤ length (now out)) × (now t ≡ entries) ⌝ }
     ensures { λ r. ⌜ Reached protocol r ⌝ }
 {
     let mut input = [0u8; CHUNK];
     let mut state = start();
     let mut turns = u64::MAX;
     while turns > 0 {
-        let turn = feed_some(protocol, state, &mut input, out);
+        let turn = feed_some(t, protocol, state, &mut input, out);
         let fed = turn.fed;
         let end = fed.end;
         state = fed.state;
@@ -227,23 +293,24 @@ fn feed_input(protocol: Protocol, out: &mut [u8]) -> State
 }
 
 // Reads to the input's end, and answers a last line that lacks its newline: what stands at the front of `out` then is yet to be written.
-fn run_with(protocol: Protocol, out: &mut [u8]) -> Fed
-    requires { ⌜ chunkLength * room ≤ length (now out) ⌝ }
+fn run_with(t: &SineTable, protocol: Protocol, out: &mut [u8]) -> Fed
+    requires { ⌜ (chunkLength * room ≤ length (now out)) × (now t ≡ entries) ⌝ }
     ensures { λ r. ⌜ Completes protocol (r .state) (take (r .end) (now (out .exit))) ⌝ }
     ensures { λ r. ⌜ r .end ≤ length (now (out .entry)) ⌝ }
 {
-    let last = feed_input(protocol, out);
-    let end = finish(protocol, last, out);
+    let last = feed_input(t, protocol, out);
+    let end = finish(t, protocol, last, out);
     Fed {
         state: last,
         end: end,
     }
 }
 
-// Runs a program: reads standard input to its end and writes the answers of each chunk as it comes in.
+// Runs a program: reads standard input to its end and writes the answers of each chunk as it comes in. The sine's table is named once, for the run.
 pub fn run(protocol: Protocol) {
+    let t = sine::table();
     let mut output = [0u8; OUTPUT];
-    let fed = run_with(protocol, &mut output);
+    let fed = run_with(&t, protocol, &mut output);
     let end = fed.end;
     io::write_all(STDOUT_FILENO, &output[..end]);
 }

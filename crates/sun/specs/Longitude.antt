@@ -1,4 +1,4 @@
--- Document 01, "The Sun": the apparent longitude s, the polynomial longitude beside it, and the angle g of "Polaris"; of the arguments of an instant.
+-- Document 01, "The Sun": the apparent longitude s, the polynomial longitude beside it, and the angle g of "Polaris"; of the arguments of an epoch and its q.
 -- Assumes nothing.
 use mathlib.Core.Path.{_≡_}
 use mathlib.Core.List.{List}
@@ -6,7 +6,9 @@ use Prim.Native.Nat.{ℕ, _≤_, _<_}
 use lib.IntN.{ℤ, pos, _+ℤ_, _-ℤ_}
 use lib.ListN.{getD}
 use Rattle.exact.specs.Angle.{turn, reduced, shortWay}
+use Rattle.exact.specs.Decimal.{plus, arcSeconds}
 use Rattle.arguments.specs.Table.{L}
+use Rattle.series.specs.Term.{Term}
 use Rattle.series.specs.Sum.{tableSum, polynomialSum}
 use Rattle.frame.specs.Nutation.{deltaPsi, longitudeTerms}
 use Rattle.sun.specs.Series.{centre, firstSum}
@@ -14,25 +16,40 @@ use Rattle.sun.specs.Series.{centre, firstSum}
 abbrev pub meanLongitude : List ℤ → ℤ
 meanLongitude arguments = getD arguments L (pos 0)
 
--- "Apparent longitude s = L + first sum + Δψ − 204,960, reduced."
-unfoldable pub apparentLongitude : List ℤ → ℤ → ℕ
-apparentLongitude arguments q = reduced (meanLongitude arguments +ℤ tableSum arguments q firstSum +ℤ deltaPsi arguments q -ℤ pos 204960)
+-- the constant of aberration, in units
+unfoldable pub aberration : ℤ
+aberration = arcSeconds (plus 20496 3)
 
--- "The polynomial longitude .. is worked as s is .. Only in the first sum and in Δψ does R·P(a) replace Sin(a)"
-unfoldable pub polynomialLongitude : List ℤ → ℤ → ℕ
-polynomialLongitude arguments q =
-    reduced (meanLongitude arguments +ℤ polynomialSum arguments q firstSum +ℤ polynomialSum arguments q longitudeTerms -ℤ pos 204960)
+-- L, the first sum of any list of terms and Δψ, less the aberration, reduced
+unfoldable pub longitudeBy : List Term → ℤ → List ℤ → ℤ → ℕ
+longitudeBy terms aberration arguments q = reduced (meanLongitude arguments +ℤ tableSum arguments q terms +ℤ deltaPsi arguments q -ℤ aberration)
 
--- demand 3: "within 60 units"
+-- the same with R·P in the sine's place, in the first sum and in Δψ alone
+unfoldable pub polynomialBy : List Term → ℤ → List ℤ → ℤ → ℕ
+polynomialBy terms aberration arguments q =
+    reduced (meanLongitude arguments +ℤ polynomialSum arguments q terms +ℤ polynomialSum arguments q longitudeTerms -ℤ aberration)
+
+-- 01's s and its polynomial longitude
+unfoldable pub apparentLongitude : ℤ → List ℤ → ℤ → ℕ
+apparentLongitude aberration arguments q = longitudeBy firstSum aberration arguments q
+
+unfoldable pub polynomialLongitude : ℤ → List ℤ → ℤ → ℕ
+polynomialLongitude aberration arguments q = polynomialBy firstSum aberration arguments q
+
+-- demand 3: how many units the two may be apart
 abbrev pub promise : ℕ
 promise = 60
 
--- "g is L plus the centre terms alone, summed and rounded as above, reduced"
+-- the centre terms alone, rounded as the first sum is
+unfoldable pub equationOfCentre : List ℤ → ℤ → ℤ
+equationOfCentre arguments q = tableSum arguments q centre
+
+-- 01's g
 unfoldable pub centreLongitude : List ℤ → ℤ → ℕ
-centreLongitude arguments q = reduced (meanLongitude arguments +ℤ tableSum arguments q centre)
+centreLongitude arguments q = reduced (meanLongitude arguments +ℤ equationOfCentre arguments q)
 
 -- What is owed of a number r that is given out as the apparent longitude: it is s, reduced, and demand 3 holds of it
-pub record IsLongitude (arguments : List ℤ) (q : ℤ) (r : ℕ) : Type 0 where
-  pub value : r ≡ apparentLongitude arguments q
+pub record IsLongitude (aberration : ℤ) (arguments : List ℤ) (q : ℤ) (r : ℕ) : Type 0 where
+  pub value : r ≡ apparentLongitude aberration arguments q
   pub range : r < turn
-  pub near : shortWay r (polynomialLongitude arguments q) ≤ promise
+  pub near : shortWay r (polynomialLongitude aberration arguments q) ≤ promise

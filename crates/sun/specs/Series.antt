@@ -1,4 +1,4 @@
--- Document 01, "The Sun": the terms of Newcomb's series that one sum holds (source 001, section 2.1), as they are printed.
+-- Document 01, "The Sun": the terms of Newcomb's series (source 001, section 2.1), as they are printed.
 -- Assumes nothing.
 use mathlib.Core.List.{List, [], _∷_, _++_}
 use lib.IntN.{pos}
@@ -7,7 +7,7 @@ use Rattle.arguments.specs.Table.{Ms, Mm, Mv, D, P1, P2, P3}
 use Rattle.series.specs.Term.{Term}
 use Rattle.series.specs.Written.{term, sine, cosine, added, less, none}
 
--- "Centre, degrees: (1.9194603 − 0.0047889T − 0.0000144T²) sin Ms; (0.0200939 − 0.0001003T) sin 2Ms; 0.0002928 sin 3Ms; 0.0000050 sin 4Ms."
+-- the equation of the centre, in degrees: multiples of Ms, the first two with amplitudes that vary
 abbrev pub centre : List Term
 centre =
     term (degrees (plus 19194603 7)) (degrees (minus 47889 7)) (degrees (minus 144 7)) (pos 0) (added 1 Ms) none none
@@ -16,7 +16,7 @@ centre =
     ∷ term (degrees (plus 50 7)) (pos 0) (pos 0) (pos 0) (added 4 Ms) none none
     ∷ []
 
--- "Long period, ″: 6.40 sin(231.19° + 20.20°T); 1.882 sin(57.24° + 150.27°T); 0.202 sin(315.60° + 893.30°T)."
+-- the long period terms, in seconds of arc
 abbrev pub longPeriod : List Term
 longPeriod =
     sine (plus 640 2) (added 1 P1) none none
@@ -24,7 +24,7 @@ longPeriod =
     ∷ sine (plus 202 3) (added 1 P3) none none
     ∷ []
 
--- "Moon, ″: 6.454 sin D; 0.013 sin 3D; 0.177 sin(D+Mm); −0.424 sin(D−Mm); 0.039 sin(3D−Mm); −0.064 sin(D+Ms); 0.172 sin(D−Ms); −0.013 sin(D−Mm−Ms)."
+-- the Moon's terms
 abbrev pub moon : List Term
 moon =
     sine (plus 6454 3) (added 1 D) none none
@@ -37,7 +37,7 @@ moon =
     ∷ sine (minus 13 3) (added 1 D) (less 1 Mm) (less 1 Ms)
     ∷ []
 
--- "Venus, cosines: the twelve terms in Mv of 001 section 2.1, from 4.838″ to 0.154″."
+-- the twelve terms of Venus, cosines with a phase in degrees
 abbrev pub venus : List Term
 venus =
     cosine (plus 4838 3) (plus 299102 3) (added 1 Mv) (less 1 Ms) none
@@ -57,6 +57,6 @@ venus =
 abbrev pub periodic : List Term
 periodic = longPeriod ++ (moon ++ venus)
 
--- "One sum holds" all of them
+-- all of them, which are rounded together
 abbrev pub firstSum : List Term
 firstSum = centre ++ periodic

@@ -1,14 +1,10 @@
 // The numbers of the Sun at an instant, all of them together: for the programs that hold them to outside vectors and to almanacs.
 // Proved is that each call is made as its contract asks; what the numbers are is compared by a run.
 ghost use mathlib.Core.Path.{_≡_};
-ghost use Prim.Native.Nat.{_≤_};
-ghost use lib.IntN.{natAbs};
-ghost use lib.ListN.{length};
-ghost use Rattle.exact.specs.Angle.{Angles};
-ghost use Rattle.arguments.specs.Argument.{Moment};
-ghost use Rattle.calendar.specs.Time.{InstantRange, MillionthsRange};
+ghost use Rattle.epoch.specs.Sizes.{InSpan};
 ghost use Rattle.sine.specs.Sine.{entries};
 use calendar::CivilTime;
+use calendar::Epochs;
 use calendar::Instant;
 use refusal::Refusal;
 use sine::SineTable;
@@ -30,25 +26,23 @@ pub enum Answer {
     Refused(Refusal),
 }
 
-fn of_arguments(t: &SineTable, arguments: &[i64], n: i64, q: i64) -> SunNumbers
-    requires { ⌜ ((now t ≡ entries) × Moment n q × (natAbs q ≤ 1500000)) × Angles (now arguments) × (length (now arguments) ≡ 11) ⌝ }
+fn of_epochs(t: &SineTable, epochs: Epochs) -> SunNumbers
+    requires { ⌜ (now t ≡ entries) × (InSpan (epochs .universal) × InSpan (epochs .ephemeris)) ⌝ }
 {
-    let f = frame::frame_of(t, arguments, q);
+    let e = epochs.ephemeris;
+    let arguments = arguments::arguments(e);
+    let f = frame::frame_of(t, &arguments, e);
+    let sidereal = frame::sidereal_time(t, epochs.universal, f.nutation, f.epsilon);
+    let g = sun::centre_longitude(t, &arguments, e);
+    let s = sun::apparent_longitude(t, &arguments, e, f.nutation, sun::ABERRATION);
     SunNumbers {
         obliquity: f.obliquity,
         nutation: f.nutation,
         epsilon: f.epsilon,
-        sidereal_time: frame::sidereal_time(t, n, q, f.nutation, f.epsilon) as i64,
-        centre_longitude: sun::centre_longitude(t, arguments, q) as i64,
-        longitude: sun::apparent_longitude(t, arguments, q, f.nutation) as i64,
+        sidereal_time: sidereal as i64,
+        centre_longitude: g as i64,
+        longitude: s as i64,
     }
-}
-
-fn of_instant(t: &SineTable, n: i64, q: i64) -> SunNumbers
-    requires { ⌜ (now t ≡ entries) × InstantRange n × MillionthsRange q ⌝ }
-{
-    let arguments = arguments::arguments(n, q);
-    of_arguments(t, &arguments, n, q)
 }
 
 // The numbers at the instant that the first seven of a line's numbers name: fields 1 to 7 of the card.
@@ -65,7 +59,7 @@ pub fn at(t: &SineTable, fields: [i64; 16]) -> Answer
         dut1: fields[6],
     };
     match calendar::instant_of(time) {
-        Instant::Accepted(n, q) => Answer::Numbers(of_instant(t, n, q)),
+        Instant::Accepted(epochs) => Answer::Numbers(of_epochs(t, epochs)),
         Instant::Refused(refusal) => Answer::Refused(refusal),
     }
 }

@@ -36,11 +36,12 @@ fn answer_instant(numbers: [i64; 16], with_arguments: bool) {
         dut1: numbers[6],
     };
     match calendar::instant_of(t) {
-        Instant::Accepted(n, q) => {
+        Instant::Accepted(epochs) => {
+            let e = epochs.ephemeris;
             vectors::write_number(0);
-            vectors::write_numbers(&[n, q]);
+            vectors::write_numbers(&[e.n, e.q]);
             if with_arguments {
-                vectors::write_numbers(&arguments::arguments(n, q));
+                vectors::write_numbers(&arguments::arguments(e));
             }
             vectors::write_newline();
         }

@@ -1,5 +1,4 @@
 -- `almanac::declination` is safe: each component is at most R.
-use Prim.Native.Nat.{_≤_, _^_}
 use native.Mathlib.Omega.{arith}
 use borrow.Author.Needs.{needs}
 use mir.Facts.{toZ-ofZ, toZ-pos}

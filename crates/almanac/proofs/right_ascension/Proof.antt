@@ -1,5 +1,4 @@
 -- `almanac::right_ascension` is safe: each component is at most R.
-use Prim.Native.Nat.{_≤_}
 use native.Mathlib.Omega.{arith}
 use borrow.Author.Needs.{needs}
 use mir.Facts.{toZ-ofZ}

@@ -1,10 +1,11 @@
--- `arguments::argument` meets its contract, for any coefficients of the sizes stated: one lemma for the square, one for the two quotients, one for the sum.
+-- `arguments::argument` meets its contract, for any row of the sizes stated.
 use mathlib.Core.Path.{_≡_, refl, ap₂, subst⁻¹, _∙_}
-use Prim.Native.Nat.{_≤_, _<_, _^_}
+use mathlib.Core.List.{List}
+use Prim.Native.Nat.{_*_, _≤_, _<_, _^_}
 use native.Mathlib.Omega.{arith}
 use borrow.Author.Needs.{needs}
 use lib.Dec.{lit<}
-use lib.IntN.{ℤ, natAbs, _+ℤ_, _*ℤ_}
+use lib.IntN.{ℤ, pos, natAbs, _+ℤ_, _*ℤ_}
 use mir.Facts.{toZ-ofZ}
 use mir.Syntax.{w64}
 use mir.Val.{SFits}
@@ -14,116 +15,98 @@ use Rattle.exact.specs.Division.{floorDiv}
 use Rattle.exact.proofs.Differences.{split, zs}
 use Rattle.exact.proofs.Division.{floor-abs}
 use Rattle.exact.proofs.Integers.{abs-*-lt}
-use Rattle.exact.proofs.Machine.{ok-fits, fits-lt}
-use Rattle.arguments.specs.Argument.{argument, Sized}
-use Rattle.arguments.specs.declared.Coefficients.{Coefficients}
+use Rattle.exact.proofs.Machine.{ok-fits, fits-lt, fits-le}
+use Rattle.secular.specs.Polynomial.{polynomial, value}
+use Rattle.secular.specs.Sizes as Secular
+use Rattle.epoch.proofs.Sizes.{n-size, q-size, n-fits, q-fits}
+use Rattle.arguments.specs.Argument.{at, argument}
+use Rattle.arguments.proofs.Sizes.{Sized, is-sized}
 use Rattle.arguments.proofs.argument.Statement.{statement}
 use Rattle.arguments.proofs.argument.Tie as tie
 
 -- ---- over plain numbers
-square-lt : (q : ℤ) → natAbs q < 2 ^ 21 → natAbs (q *ℤ q) < 2 ^ 42
-square-lt q h = abs-*-lt q q (2 ^ 21) (2 ^ 21) h h
+linear-le : (c n : ℤ) → natAbs c < 2 ^ 45 → natAbs n < 2 ^ 43 → natAbs (floorDiv (c *ℤ n) century) ≤ 2 ^ 49
+linear-le c n h k = floor-abs (c *ℤ n) century (2 ^ 49) (lit< tt) (omega (arith, abs-*-lt c n (2 ^ 45) (2 ^ 43) h k))
 
-product-lt : (c q : ℤ) → natAbs c < 2 ^ 20 → natAbs q < 2 ^ 21 → natAbs (c *ℤ (q *ℤ q)) < 2 ^ 62
-product-lt c q h k = abs-*-lt c (q *ℤ q) (2 ^ 20) (2 ^ 42) h (square-lt q k)
+sum-in : (a b : ℤ) → natAbs a ≤ 2 ^ 49 → natAbs b ≤ 2 ^ 42 → SFits w64 (a +ℤ b) × (natAbs (a +ℤ b) ≤ 2 ^ 61)
+sum-in a b = rw (split a, split b) (simp zs (omega arith))
 
-linear-le : (c n : ℤ) → natAbs c < 2 ^ 45 → natAbs n < 2 ^ 45 → natAbs (floorDiv (c *ℤ n) century) ≤ 2 ^ 49
-linear-le c n h k = floor-abs (c *ℤ n) century (2 ^ 49) (lit< tt) (omega (arith, abs-*-lt c n (2 ^ 45) (2 ^ 45) h k))
-
-square-le : (c q : ℤ) → natAbs c < 2 ^ 20 → natAbs q < 2 ^ 21 → natAbs (floorDiv (c *ℤ (q *ℤ q)) (10 ^ 12)) ≤ 2 ^ 23
-square-le c q h k = floor-abs (c *ℤ (q *ℤ q)) (10 ^ 12) (2 ^ 23) (lit< tt) (omega (arith, product-lt c q h k))
-
-sums-fit : (a l s : ℤ) → natAbs a < 2 ^ 40 → natAbs l ≤ 2 ^ 49 → natAbs s ≤ 2 ^ 23 → SFits w64 (a +ℤ l) × SFits w64 (a +ℤ l +ℤ s)
-sums-fit a l s = rw (split a, split l, split s) (simp zs (omega arith))
+-- c0 and c2 as secular takes them
+rest-sized : (row : List ℤ) → Sized row → Secular.Sized (polynomial (at row 0) (pos 0) (at row 2) (10 ^ 12))
+rest-sized row h = record { c0 = h .c0; c1 = omega arith; c2 = h .c2; low = search needs; high = search needs }
 
 -- ---- what is known at each place
-abbrev Fit : Coefficients → Type 0
-Fit c = SFits w64 (c .c0) × SFits w64 (c .c1) × SFits w64 (c .c2)
-
-fit : (c : Coefficients) → Sized c → Fit c
-fit c s = (fits-lt (2 ^ 40) (c .c0) (s .c0) refl, fits-lt (2 ^ 45) (c .c1) (s .c1) refl, fits-lt (2 ^ 20) (c .c2) (s .c2) refl)
-
 module _ (s : tie.Start) where
-  q²-fits : SFits w64 (s .args .q *ℤ s .args .q)
-  q²-fits = fits-lt (2 ^ 42) (s .args .q *ℤ s .args .q) (square-lt (s .args .q) (s .pre .1 .millionths)) refl
+  abbrev row : List ℤ
+  row = s .args .t1
 
-  c2q²-fits : SFits w64 (s .args .c .c2 *ℤ (s .args .q *ℤ s .args .q))
-  c2q²-fits = fits-lt (2 ^ 62) _ (product-lt (s .args .c .c2) (s .args .q) (s .pre .0 .c2) (s .pre .1 .millionths)) refl
+  sizes : Sized row
+  sizes = is-sized row (s .pre .0)
+
+  fit : SFits w64 (at row 0) × SFits w64 (at row 1) × SFits w64 (at row 2)
+  fit =
+      let h = sizes in
+      (fits-le (2 ^ 40) (at row 0) (h .c0) refl, fits-lt (2 ^ 45) (at row 1) (h .c1) refl, fits-le (2 * 10 ^ 6) (at row 2) (h .c2) refl)
+
+module _ (c : tie.After-value) where
+  abbrev start : tie.Start
+  start = c .before .before .before .before .before .before .before
 
   abbrev linear : ℤ
-  linear = floorDiv (s .args .c .c1 *ℤ s .args .n) century
+  linear = c .before .before .per-century .result
 
-  abbrev square : ℤ
-  square = floorDiv (s .args .c .c2 *ℤ (s .args .q *ℤ s .args .q)) (10 ^ 12)
+  linear-is : linear ≡ floorDiv (at (row start) 1 *ℤ start .args .e .n) century
+  linear-is = simp (toZ-ofZ, fit start .1, n-fits (start .pre .1)) at (c .before .before .per-century .ensures)
 
-linear-is : (c : tie.After-per-century) → c .per-century .result ≡ linear (c .before .before)
-linear-is c =
-    let s = c .before .before in
-    let f = fit (s .args .c) (s .pre .0) in
-    simp (toZ-ofZ, f .1, s .fits .n) at (c .per-century .ensures)
+  rest-is : c .value .result ≡ value (polynomial (at (row start) 0) (pos 0) (at (row start) 2) (10 ^ 12)) (start .args .e .q)
+  rest-is = simp (toZ-ofZ, fit start .0, fit start .2, q-fits (start .pre .1)) at (c .value .ensures .0)
 
-square-is : (c : tie.After-floor-div) → c .floor-div .result ≡ square (c .before .before .before .before .before)
-square-is c =
-    let s = c .before .before .before .before .before in
-    let f = fit (s .args .c) (s .pre .0) in
-    simp (toZ-ofZ, f .2, s .fits .q, q²-fits s, c2q²-fits s) at (c .floor-div .ensures)
+  both-fit : SFits w64 linear × SFits w64 (c .value .result)
+  both-fit = (ok-fits linear (c .before .before .per-century .ok), ok-fits (c .value .result) (c .value .ok))
+
+  sum : SFits w64 (linear +ℤ c .value .result) × (natAbs (linear +ℤ c .value .result) ≤ 2 ^ 61)
+  unfolding Secular.most
+  sum =
+      let h = sizes start in
+      let l = linear-le (at (row start) 1) (start .args .e .n) (h .c1) (n-size (start .pre .1)) in
+      let v = simp (toZ-ofZ, fit start .0, fit start .2) at (c .value .ensures .1) in
+      sum-in linear (c .value .result) (subst⁻¹ (λ (z : ℤ). natAbs z ≤ 2 ^ 49) linear-is l) (omega (arith, v, h .c0, h .c2))
 
 -- ---- the needs
+array-copy-out-reduced-bounded : tie.Need-array-copy-out-reduced-bounded
+array-copy-out-reduced-bounded c = search needs
+
+array-copy-out-per-century : tie.Need-array-copy-out-per-century
+array-copy-out-per-century c = search needs
+
+array-copy-out-per-century-2 : tie.Need-array-copy-out-per-century-2
+array-copy-out-per-century-2 c = search needs
+
 per-century-requires : tie.Need-per-century-requires
-per-century-requires c κs = search needs
-
-mul-floor-div : tie.Need-mul-floor-div
-mul-floor-div c = let s = c .before .before in simp (toZ-ofZ, s .fits .q) (q²-fits s)
-
-mul-floor-div-2 : tie.Need-mul-floor-div-2
-mul-floor-div-2 c =
+per-century-requires c κs =
     let s = c .before .before .before .before in
-    simp (toZ-ofZ, s .fits .q, q²-fits s, fit (s .args .c) (s .pre .0) .2) (c2q²-fits s)
+    simp (toZ-ofZ, fit s .1, n-fits (s .pre .1)) (sizes s .c1, n-size (s .pre .1))
 
-floor-div-requires : tie.Need-floor-div-requires
-floor-div-requires c κs = search needs
+value-requires : tie.Need-value-requires
+value-requires c κs =
+    let s = c .before .before .before .before .before .before in
+    simp (toZ-ofZ, fit s .0, fit s .2, q-fits (s .pre .1)) (rest-sized (row s) (sizes s), q-size (s .pre .1))
 
-module _ (c : tie.After-floor-div) where
-  abbrev start : tie.Start
-  start = c .before .before .before .before .before
+add-reduced-bounded : tie.Need-add-reduced-bounded
+add-reduced-bounded c = simp (toZ-ofZ, both-fit c .0, both-fit c .1) (sum c .0)
 
-  abbrev L : ℤ
-  L = c .before .before .before .per-century .result
-
-  abbrev S : ℤ
-  S = c .floor-div .result
-
-  parts : SFits w64 (start .args .c .c0) × SFits w64 L × SFits w64 S
-  parts = (
-    fit (start .args .c) (start .pre .0) .0,
-    ok-fits L (c .before .before .before .per-century .ok),
-    ok-fits S (c .floor-div .ok),
-  )
-
-  sums : SFits w64 (start .args .c .c0 +ℤ L) × SFits w64 (start .args .c .c0 +ℤ L +ℤ S)
-  sums =
-      let p = start .pre in
-      sums-fit (start .args .c .c0) L S (p .0 .c0)
-      (subst⁻¹ (λ (z : ℤ). natAbs z ≤ 2 ^ 49) (linear-is (c .before .before .before)) (linear-le (start .args .c .c1) (start .args .n) (p .0 .c1) (p .1 .instant)))
-      (subst⁻¹ (λ (z : ℤ). natAbs z ≤ 2 ^ 23) (square-is c) (square-le (start .args .c .c2) (start .args .q) (p .0 .c2) (p .1 .millionths)))
-
-add-reduced : tie.Need-add-reduced
-add-reduced c = let d = c .before .before in let p = parts d in simp (toZ-ofZ, p .0, p .1) (sums d .0)
-
-add-reduced-2 : tie.Need-add-reduced-2
-add-reduced-2 c = let d = c .before .before in let p = parts d in simp (toZ-ofZ, p .0, p .1, p .2, sums d .0) (sums d .1)
-
-reduced-requires : tie.Need-reduced-requires
-reduced-requires c κs = search needs
+reduced-bounded-requires : tie.Need-reduced-bounded-requires
+reduced-bounded-requires c κs = simp (toZ-ofZ, both-fit c .0, both-fit c .1, sum c .0) (sum c .1)
 
 returns : tie.Need-returns
 unfolding argument
 returns c =
-    let d = c .before .before .before in
-    let p = parts d in
-    let e = simp (toZ-ofZ, p .0, p .1, p .2, sums d .0, sums d .1) at (c .reduced .ensures .0) in
-    (e ∙ ap₂ (λ (l s : ℤ). reduced (start d .args .c .c0 +ℤ l +ℤ s)) (linear-is (d .before .before .before)) (square-is d), c .reduced .ensures .1)
+    let d = c .before in
+    let e = simp (toZ-ofZ, both-fit d .0, both-fit d .1, sum d .0) at (c .reduced-bounded .ensures .0) in
+    (e ∙ ap₂ (λ (a b : ℤ). reduced (a +ℤ b)) (linear-is d) (rest-is d), c .reduced-bounded .ensures .1)
 
 pub argument-spec : {M : Type 1} → statement M
 argument-spec =
-    tie.close (tie.spec per-century-requires mul-floor-div mul-floor-div-2 floor-div-requires add-reduced add-reduced-2 reduced-requires returns)
+    tie.close
+    (tie.spec array-copy-out-reduced-bounded array-copy-out-per-century array-copy-out-per-century-2 per-century-requires value-requires add-reduced-bounded
+    reduced-bounded-requires returns)

@@ -11,7 +11,7 @@ use mir.Syntax.{w64}
 use mir.Val.{SFits}
 use Rattle.exact.proofs.Machine.{ok-fits}
 use Rattle.calendar.specs.Date.{dayCount, isDate, dayOf, DayInRange}
-use Rattle.calendar.specs.Time.{isTime, isDut1, dayMillisecond, sinceNoon, instant, millionths, clockOf, ClockInRange, accepted, instantOf}
+use Rattle.calendar.specs.Time.{isTime, isDut1, dayMillisecond, sinceNoon, instant, epochsOf, clockOf, ClockInRange, accepted, instantOf}
 use Rattle.calendar.specs.declared.CivilTime.{CivilTime}
 use Rattle.calendar.specs.declared.Day.the-variants.{Counted}
 use Rattle.calendar.specs.declared.Clock.the-variants.{Millisecond}
@@ -152,10 +152,10 @@ since-1900-requires c κs =
 n-fits : (c : tie.After-since-1900) → SFits w64 (c .since-1900 .result)
 n-fits c = ok-fits (c .since-1900 .result) (c .since-1900 .ok)
 
-millionths-requires : tie.Need-millionths-requires
-millionths-requires c κs = simp (toZ-ofZ, n-fits c) (c .since-1900 .ensures .1)
+epochs-of-requires : tie.Need-epochs-of-requires
+epochs-of-requires c κs = simp (toZ-ofZ, n-fits c) (c .since-1900 .ensures .1)
 
-module _ (c : tie.After-millionths) where
+module _ (c : tie.After-epochs-of) where
   abbrev tested : tie.After-between
   tested = c .before .before .before .before
 
@@ -165,18 +165,17 @@ module _ (c : tie.After-millionths) where
       (simp (toZ-ofZ, dut1-fits tested) at (c .before .since-1900 .ensures .0))
       ∙ ap₂ (λ d m. sinceNoon d m (u tested .dut1)) (date (dated (clocked tested)) .1) (time tested .1)
 
-  q-is : c .millionths .result ≡ millionths (instant (u tested))
-  q-is = (simp (toZ-ofZ, n-fits (c .before)) at (c .millionths .ensures .0)) ∙ ap millionths n-is
+  epochs-are : c .epochs-of .result ≡ epochsOf (instant (u tested))
+  epochs-are = (simp (toZ-ofZ, n-fits (c .before)) at (c .epochs-of .ensures .0)) ∙ ap epochsOf n-is
 
 returns-4 : tie.Need-returns-4
 unfolding instantOf
 returns-4 c =
     let b = tested c in
-    simp (toZ-ofZ, n-fits (c .before), ok-fits (c .millionths .result) (c .millionths .ok), date (dated (clocked b)) .0, time b .0, dut1-in (c .before .before .before))
-    (ap₂ accepted (n-is c) (q-is c), (c .before .since-1900 .ensures .1, c .millionths .ensures .1))
+    simp (date (dated (clocked b)) .0, time b .0, dut1-in (c .before .before .before)) (ap accepted (epochs-are c), c .epochs-of .ensures .1)
 
 pub instant-of-spec : {M : Type 1} → statement M
 instant-of-spec =
     tie.close
     (tie.spec day-count-requires enum-known-day enum-told returns day-millisecond-requires enum-known-ms enum-told-2 returns-2 between-requires returns-3
-    since-1900-requires millionths-requires returns-4)
+    since-1900-requires epochs-of-requires returns-4)

@@ -1,5 +1,4 @@
 -- `calendar::last_millisecond` meets its contract: the tests are the definition's.
-use mathlib.Core.Path.{refl, sym, _∙_}
 use native.Mathlib.Omega.{arith}
 use borrow.Author.Needs.{needs}
 use borrow.Author.Tests.{eq-eqb, ne-eqb}

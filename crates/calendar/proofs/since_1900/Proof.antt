@@ -8,7 +8,8 @@ use mir.Facts.{toZ-ofZ}
 use mir.Syntax.{w64}
 use mir.Val.{SFits}
 use Rattle.exact.proofs.Differences.{split, zs}
-use Rattle.calendar.specs.Time.{sinceNoon, InstantRange}
+use Rattle.epoch.specs.Sizes.{Span}
+use Rattle.calendar.specs.Time.{sinceNoon}
 use Rattle.calendar.proofs.since_1900.Statement.{statement}
 use Rattle.calendar.proofs.since_1900.Tie as tie
 
@@ -16,7 +17,7 @@ use Rattle.calendar.proofs.since_1900.Tie as tie
 abbrev Sizes : ℤ → ℤ → ℕ → ℤ → Type 0
 Sizes w x ms dut1 =
     SFits w64 w × SFits w64 (w -ℤ pos 43200000) × SFits w64 (w -ℤ pos 43200000 +ℤ dut1)
-    × (w -ℤ pos 43200000 +ℤ dut1 ≡ x -ℤ pos 43200000 +ℤ pos ms +ℤ dut1) × InstantRange (w -ℤ pos 43200000 +ℤ dut1)
+    × (w -ℤ pos 43200000 +ℤ dut1 ≡ x -ℤ pos 43200000 +ℤ pos ms +ℤ dut1) × Span (w -ℤ pos 43200000 +ℤ dut1)
 
 sizes : (day ms : ℕ) (w x dut1 : ℤ) → w ≡ pos (86400000 * day + ms) → x ≡ pos (86400000 * day)
     → 27759 ≤ day → day ≤ 54787 → ms ≤ 86400999 → natAbs dut1 ≤ 900 → Sizes w x ms dut1

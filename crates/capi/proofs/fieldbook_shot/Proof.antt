@@ -2,7 +2,7 @@
 use mathlib.Core.Path.{_≡_, subst}
 use borrow.Author.Needs.{needs}
 use mir.Facts.{toZ-ofZ}
-use Rattle.card.specs.declared.Numbers.{Numbers}
+use Rattle.fieldbook.specs.declared.Numbers.{Numbers}
 use Rattle.fieldbook.specs.Shot.{valuesOf, InTurn, shotOf}
 use Rattle.fieldbook.specs.declared.Outcome.{Outcome}
 use Rattle.capi.specs.Door.{numbers}
@@ -12,17 +12,21 @@ use Rattle.capi.proofs.fieldbook_shot.Tie as tie
 module _ (c : tie.After-shot) where
   abbrev x : Numbers
   x =
-      let a = c .before .args in
+      let a = c .before .before .args in
       numbers (a .year) (a .month) (a .day) (a .hour) (a .minute) (a .millisecond) (a .dut1) (a .latitude) (a .longitude) (a .body)
 
   -- the values of the book's own answer are the shot's
   shot-is : (valuesOf (c .shot .result) ≡ shotOf x) × InTurn (valuesOf (c .shot .result))
   shot-is =
-      let f = c .before .fits in
-      simp (toZ-ofZ, f .year, f .month, f .day, f .hour, f .minute, f .millisecond, f .dut1, f .latitude, f .longitude, f .body) at (c .shot .ensures)
+      let f = c .before .before .fits in
+      let e = c .before .numbers-of .ensures in
+      simp (toZ-ofZ, f .year, f .month, f .day, f .hour, f .minute, f .millisecond, f .dut1, f .latitude, f .longitude, f .body) at (subst (λ (n : Numbers). (valuesOf (c .shot .result) ≡ shotOf n) × InTurn (valuesOf (c .shot .result))) e (c .shot .ensures))
 
   values-of : (o : Outcome) → c .shot .result ≡ o → (valuesOf o ≡ shotOf x) × InTurn (valuesOf o)
   values-of o e = subst (λ (o : Outcome). (valuesOf o ≡ shotOf x) × InTurn (valuesOf o)) e shot-is
+
+numbers-of-requires : tie.Need-numbers-of-requires
+numbers-of-requires c κs = search needs
 
 shot-requires : tie.Need-shot-requires
 shot-requires c κs = search needs
@@ -43,4 +47,4 @@ returns-2 : tie.Need-returns-2
 returns-2 c = let d = c .before .before in rw (c .number-of .ensures .0) (values-of (d .before .before) _ (d .refusal .given .1))
 
 pub fieldbook-shot-spec : {M : Type 1} → statement M
-fieldbook-shot-spec = tie.close (tie.spec shot-requires enum-known-a enum-known-refusal number-of-requires returns returns-2)
+fieldbook-shot-spec = tie.close (tie.spec numbers-of-requires shot-requires enum-known-a enum-known-refusal number-of-requires returns returns-2)

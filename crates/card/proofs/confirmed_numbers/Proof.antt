@@ -1,155 +1,115 @@
--- `card::confirmed_numbers` meets its contract. Assumes nothing.
+-- `card::confirmed_numbers` meets its contract: at each turn of the loop, what is gathered and the fields that are left give the answer. Assumes
+-- nothing.
+use Prim.Native.Nat.{ℕ, suc, _+_, _-_, _<_, _≤_}
+use native.Mathlib.Numerals.{add-one}
 use native.Mathlib.Omega.{arith}
-use Rattle.card.proofs.AllConfirmed.{missing, confirmed, all-there}
+use mathlib.Core.Path.{_≡_, refl, sym, ap, _∙_}
+use mathlib.Core.Bool.{false, cond}
+use mathlib.Core.List.{List, _∷_, map}
+use lib.IntN.{ℤ, pos}
+use lib.ListN.{set, replicate}
+use lib.Seq.{sets}
+use mir.Facts.{toZ-ofZ}
+use Rattle.card.specs.declared.Field.{Field}
+use Rattle.card.specs.declared.Field.the-variants.{Confirmed}
+use Rattle.card.specs.declared.Card.{Card}
+use Rattle.card.specs.Fields.{isConfirmed, numberIn, fieldCount, fieldAt}
+use Rattle.card.specs.Shot.{fieldsFrom, everyConfirmed, ConfirmedValues, given, withheld, confirmedNumbers}
+use Rattle.card.proofs.States.{not-confirmed}
 use borrow.Author.Needs.{needs}
 use Rattle.card.proofs.confirmed_numbers.Statement.{statement}
 use Rattle.card.proofs.confirmed_numbers.Tie as tie
 
-field-at-requires : tie.Need-field-at-requires
+-- the answer, with numbers gathered before place i and fields left from it on
+abbrev answer : List ℤ → ℕ → List Field → ConfirmedValues
+answer numbers i fields = cond (everyConfirmed fields) (given (sets numbers i (map numberIn fields))) (withheld 1)
+
+abbrev left : Card → ℕ → List Field
+left c i = fieldsFrom c i (fieldCount - i)
+
+module _ (c : Card) where
+  none-gathered : answer (replicate fieldCount (pos 0)) 0 (left c 0) ≡ confirmedNumbers c
+  unfolding fieldsFrom
+  none-gathered = refl
+
+  module _ (numbers : List ℤ) (i : ℕ) where
+    all-gathered : fieldCount ≤ i → given numbers ≡ answer numbers i (left c i)
+    unfolding fieldsFrom everyConfirmed
+    all-gathered h = let e : fieldCount - i ≡ 0 = omega arith in rw e
+
+    module _ (h : i < fieldCount) where
+      next-left : left c i ≡ fieldAt c i ∷ left c (i + 1)
+      unfolding fieldsFrom
+      next-left = let e : fieldCount - i ≡ suc (fieldCount - (i + 1)) = omega arith in rw (e, add-one)
+
+      next-confirmed : {z : ℤ} → fieldAt c i ≡ Confirmed z → answer (set numbers i z) (i + 1) (left c (i + 1)) ≡ answer numbers i (left c i)
+      unfolding everyConfirmed
+      next-confirmed e = rw (next-left, e, add-one)
+
+      next-not-confirmed : isConfirmed (fieldAt c i) ≡ false → withheld 1 ≡ answer numbers i (left c i)
+      unfolding everyConfirmed
+      next-not-confirmed e = rw (next-left, e)
+
+abbrev Inv-loop : tie.InvT-loop
+Inv-loop card numbers₀ i₀ numbers i = answer numbers i (left card i) ≡ confirmedNumbers card
+
+abbrev μ-loop : tie.MeasureT-loop
+μ-loop card numbers₀ i₀ numbers i = fieldCount - i
+
+loop-holds : tie.Need-loop-holds Inv-loop μ-loop
+loop-holds c = none-gathered (c .args .card)
+
+field-at-requires : tie.Need-field-at-requires Inv-loop μ-loop
 field-at-requires c κs = search needs
 
-enum-known-year : tie.Need-enum-known-year
-enum-known-year c = search needs
+enum-known-number : tie.Need-enum-known-number Inv-loop μ-loop
+enum-known-number c = search needs
 
-returns : tie.Need-returns
-returns c = missing _ 0 (omega arith) (c .before .field-at .ensures) (c .match .keys2)
+returns : tie.Need-returns Inv-loop μ-loop
+returns c =
+    let f = c .before in
+    let l = f .before .before .loop in
+    next-not-confirmed _ (l .numbers) (l .i) (omega arith)
+    (ap isConfirmed (sym (f .field-at .ensures)) ∙ not-confirmed (f .field-at .result) (c .match .keys2))
+    ∙ l .inv
 
-field-at-requires-2 : tie.Need-field-at-requires-2
-field-at-requires-2 c κs = search needs
+mul-numbers : tie.Need-mul-numbers Inv-loop μ-loop
+mul-numbers c = search needs
 
-enum-known-month : tie.Need-enum-known-month
-enum-known-month c = search needs
+array-set-from-numbers : tie.Need-array-set-from-numbers Inv-loop μ-loop
+array-set-from-numbers c = search needs
 
-returns-2 : tie.Need-returns-2
-returns-2 c = missing _ 1 (omega arith) (c .before .field-at2 .ensures) (c .match2 .keys2)
+add-i : tie.Need-add-i Inv-loop μ-loop
+add-i c = search needs
 
-field-at-requires-3 : tie.Need-field-at-requires-3
-field-at-requires-3 c κs = search needs
+loop-less : tie.Need-loop-less Inv-loop μ-loop
+loop-less c = search needs
 
-enum-known-day : tie.Need-enum-known-day
-enum-known-day c = search needs
+loop-again : tie.Need-loop-again Inv-loop μ-loop
+loop-again c =
+    let n = c .before in
+    let f = n .before .before in
+    let l = f .before .before .loop in
+    next-confirmed _ (l .numbers) (l .i) (omega arith)
+    (sym (f .field-at .ensures) ∙ n .number .given .1 ∙ ap Confirmed (sym (toZ-ofZ (search needs))))
+    ∙ l .inv
 
-returns-3 : tie.Need-returns-3
-returns-3 c = missing _ 2 (omega arith) (c .before .field-at3 .ensures) (c .match3 .keys2)
-
-field-at-requires-4 : tie.Need-field-at-requires-4
-field-at-requires-4 c κs = search needs
-
-enum-known-hour : tie.Need-enum-known-hour
-enum-known-hour c = search needs
-
-returns-4 : tie.Need-returns-4
-returns-4 c = missing _ 3 (omega arith) (c .before .field-at4 .ensures) (c .match4 .keys2)
-
-field-at-requires-5 : tie.Need-field-at-requires-5
-field-at-requires-5 c κs = search needs
-
-enum-known-minute : tie.Need-enum-known-minute
-enum-known-minute c = search needs
-
-returns-5 : tie.Need-returns-5
-returns-5 c = missing _ 4 (omega arith) (c .before .field-at5 .ensures) (c .match5 .keys2)
-
-field-at-requires-6 : tie.Need-field-at-requires-6
-field-at-requires-6 c κs = search needs
-
-enum-known-millisecond : tie.Need-enum-known-millisecond
-enum-known-millisecond c = search needs
-
-returns-6 : tie.Need-returns-6
-returns-6 c = missing _ 5 (omega arith) (c .before .field-at6 .ensures) (c .match6 .keys2)
-
-field-at-requires-7 : tie.Need-field-at-requires-7
-field-at-requires-7 c κs = search needs
-
-enum-known-dut1 : tie.Need-enum-known-dut1
-enum-known-dut1 c = search needs
-
-returns-7 : tie.Need-returns-7
-returns-7 c = missing _ 6 (omega arith) (c .before .field-at7 .ensures) (c .match7 .keys2)
-
-field-at-requires-8 : tie.Need-field-at-requires-8
-field-at-requires-8 c κs = search needs
-
-enum-known-latitude : tie.Need-enum-known-latitude
-enum-known-latitude c = search needs
-
-returns-8 : tie.Need-returns-8
-returns-8 c = missing _ 7 (omega arith) (c .before .field-at8 .ensures) (c .match8 .keys2)
-
-field-at-requires-9 : tie.Need-field-at-requires-9
-field-at-requires-9 c κs = search needs
-
-enum-known-longitude : tie.Need-enum-known-longitude
-enum-known-longitude c = search needs
-
-returns-9 : tie.Need-returns-9
-returns-9 c = missing _ 8 (omega arith) (c .before .field-at9 .ensures) (c .match9 .keys2)
-
-field-at-requires-10 : tie.Need-field-at-requires-10
-field-at-requires-10 c κs = search needs
-
-enum-known-body : tie.Need-enum-known-body
-enum-known-body c = search needs
-
-returns-10 : tie.Need-returns-10
-returns-10 c = missing _ 9 (omega arith) (c .before .field-at10 .ensures) (c .match10 .keys2)
-
-returns-11 : tie.Need-returns-11
-returns-11 c =
-    let a8 = c .before .before .before .before in
-    let a7 = a8 .before .before .before .before in
-    let a6 = a7 .before .before .before .before in
-    let a5 = a6 .before .before .before .before in
-    let a4 = a5 .before .before .before .before in
-    let a3 = a4 .before .before .before .before in
-    let a2 = a3 .before .before .before .before in
-    let a1 = a2 .before .before .before .before in
-    let a0 = a1 .before .before .before .before in
-    all-there _
-    (confirmed (a0 .before .before .before .field-at .ensures) (a0 .before .year .given .1) (search needs))
-    (confirmed (a1 .before .before .before .field-at2 .ensures) (a1 .before .month .given .1) (search needs))
-    (confirmed (a2 .before .before .before .field-at3 .ensures) (a2 .before .day .given .1) (search needs))
-    (confirmed (a3 .before .before .before .field-at4 .ensures) (a3 .before .hour .given .1) (search needs))
-    (confirmed (a4 .before .before .before .field-at5 .ensures) (a4 .before .minute .given .1) (search needs))
-    (confirmed (a5 .before .before .before .field-at6 .ensures) (a5 .before .millisecond .given .1) (search needs))
-    (confirmed (a6 .before .before .before .field-at7 .ensures) (a6 .before .dut1 .given .1) (search needs))
-    (confirmed (a7 .before .before .before .field-at8 .ensures) (a7 .before .latitude .given .1) (search needs))
-    (confirmed (a8 .before .before .before .field-at9 .ensures) (a8 .before .longitude .given .1) (search needs))
-    (confirmed (c .before .before .before .field-at10 .ensures) (c .before .body .given .1) (search needs))
+returns-2 : tie.Need-returns-2 Inv-loop μ-loop
+returns-2 c = let l = c .before .loop in all-gathered _ (l .numbers) (l .i) (omega arith) ∙ l .inv
 
 pub confirmed-numbers-spec : {M : Type 1} → statement M
 confirmed-numbers-spec =
     tie.close
     (tie.spec
+    Inv-loop
+    μ-loop
+    loop-holds
     field-at-requires
-    enum-known-year
+    enum-known-number
     returns
-    field-at-requires-2
-    enum-known-month
-    returns-2
-    field-at-requires-3
-    enum-known-day
-    returns-3
-    field-at-requires-4
-    enum-known-hour
-    returns-4
-    field-at-requires-5
-    enum-known-minute
-    returns-5
-    field-at-requires-6
-    enum-known-millisecond
-    returns-6
-    field-at-requires-7
-    enum-known-dut1
-    returns-7
-    field-at-requires-8
-    enum-known-latitude
-    returns-8
-    field-at-requires-9
-    enum-known-longitude
-    returns-9
-    field-at-requires-10
-    enum-known-body
-    returns-10
-    returns-11)
+    mul-numbers
+    array-set-from-numbers
+    add-i
+    loop-less
+    loop-again
+    returns-2)

@@ -1,62 +1,58 @@
--- `exact::nearest_div` meets its contract: the definition, step by step.
-use mathlib.Core.Path.{_≡_, refl, _∙_}
-use Prim.Native.Nat.{_+_, _<_, _^_}
+-- `exact::nearest_div` meets its contract: half of d more, rounded down, is the nearest, also for an odd d.
+use mathlib.Core.Path.{_≡_, _∙_}
+use Prim.Native.Nat.{ℕ, _+_, _*_, _/_, _≤_, _^_}
 use native.Mathlib.Omega.{arith}
-use lib.IntN.{ℤ, pos, natAbs, _+ℤ_, _*ℤ_}
 use borrow.Author.Needs.{sfits-of}
-use lib.Signed.{_<ℤ_}
+use lib.Dec.{lit<}
+use lib.IntN.{ℤ, pos, natAbs, _+ℤ_}
+use lib.Signed.{quotZ, _<ℤ_, ltZ-yes}
 use mir.Facts.{toZ-ofZ}
 use mir.Syntax.{w64}
 use mir.Val.{SFits}
 use Rattle.exact.specs.Division.{floorDiv, nearest}
 use Rattle.exact.proofs.Differences.{split, zs, abs-dif}
-use Rattle.exact.proofs.Quotient.{Positive, some, positive}
+use Rattle.exact.proofs.Division.{nearest-half}
+use Rattle.exact.proofs.Quotient.{Positive, some, positive, quot-fits}
 use Rattle.exact.proofs.nearest_div.Statement.{statement}
 use Rattle.exact.proofs.nearest_div.Tie as tie
 
--- the three numbers fit
-twice-fits : (a d : ℤ) → natAbs a + natAbs d < 2 ^ 62 → SFits w64 (pos 2 *ℤ a)
-twice-fits a d = rw (split a, split d) (simp (zs, abs-dif) (omega arith))
+record Half (a d : ℤ) : Type 0 where
+  fits : SFits w64 (a +ℤ quotZ d (pos 2))
+  sized : natAbs (a +ℤ quotZ d (pos 2)) + natAbs d ≤ 2 ^ 62
+  same : floorDiv (a +ℤ quotZ d (pos 2)) (natAbs d) ≡ nearest a (natAbs d)
 
-sum-fits : (a d : ℤ) → natAbs a + natAbs d < 2 ^ 62 → SFits w64 (pos 2 *ℤ a +ℤ d)
-sum-fits a d = rw (split a, split d) (simp (zs, abs-dif) (omega arith))
-
-div-fits : (a d : ℤ) → natAbs a + natAbs d < 2 ^ 62 → SFits w64 (pos 2 *ℤ d)
-div-fits a d = rw (split a, split d) (simp (zs, abs-dif) (omega arith))
-
-twice-pos : (d : ℤ) → pos 0 <ℤ d → pos 0 <ℤ (pos 2 *ℤ d)
-twice-pos d = rw (split d) (simp zs (omega arith))
-
-same : (a d : ℤ) → pos 0 <ℤ d → floorDiv (pos 2 *ℤ a +ℤ d) (natAbs (pos 2 *ℤ d)) ≡ nearest a (natAbs d)
-unfolding nearest
-same a d h = go (positive d h)
+half : (a d : ℤ) → pos 0 <ℤ d → natAbs a + 2 * natAbs d ≤ 2 ^ 62 → Half a d
+half a d h = go (positive d h)
   where
-    go : {d : ℤ} → Positive d → floorDiv (pos 2 *ℤ a +ℤ d) (natAbs (pos 2 *ℤ d)) ≡ nearest a (natAbs d)
-    go (some n p) = refl
+    sizes : (a : ℤ) (n : ℕ) → natAbs a + 2 * n ≤ 2 ^ 62 → SFits w64 (a +ℤ pos (n / 2)) × (natAbs (a +ℤ pos (n / 2)) + n ≤ 2 ^ 62)
+    sizes a n = rw (split a) (simp (zs, abs-dif) (omega arith))
 
-mul-floor-div : tie.Need-mul-floor-div
-mul-floor-div c = let a = c .args .a in let d = c .args .d in simp (toZ-ofZ, c .fits .a) (twice-fits a d (c .pre .1))
+    go : {d : ℤ} → Positive d → natAbs a + 2 * natAbs d ≤ 2 ^ 62 → Half a d
+    go (some n p) b = let s = sizes a n b in record { fits = s .0; sized = s .1; same = nearest-half a n p }
+
+known : (s : tie.Start) → Half (s .args .a) (s .args .d)
+known s = half (s .args .a) (s .args .d) (s .pre .0) (s .pre .1)
+
+half-fits : (s : tie.Start) → SFits w64 (quotZ (s .args .d) (pos 2))
+half-fits s = quot-fits w64 (s .args .d) (pos 2) (s .fits .d) (ltZ-yes tt)
+
+div-floor-div : tie.Need-div-floor-div
+div-floor-div c = simp (toZ-ofZ, c .fits .d) (lit< tt, half-fits c)
 
 add-floor-div : tie.Need-add-floor-div
-add-floor-div c =
-    let a = c .args .a in
-    let d = c .args .d in
-    simp (toZ-ofZ, c .fits .a, c .fits .d, twice-fits a d (c .pre .1)) (sum-fits a d (c .pre .1))
-
-mul-floor-div-2 : tie.Need-mul-floor-div-2
-mul-floor-div-2 c = let a = c .args .a in let d = c .args .d in simp (toZ-ofZ, c .fits .d) (div-fits a d (c .pre .1))
+add-floor-div c = simp (toZ-ofZ, c .fits .a, c .fits .d, half-fits c) (known c .fits)
 
 floor-div-requires : tie.Need-floor-div-requires
-floor-div-requires c κs = let a = c .args .a in let d = c .args .d in simp (toZ-ofZ, c .fits .d, div-fits a d (c .pre .1)) (twice-pos d (c .pre .0))
+floor-div-requires c κs =
+    let k = known c in
+    simp (toZ-ofZ, c .fits .a, c .fits .d, half-fits c, k .fits) (c .pre .0, k .sized)
 
 returns : tie.Need-returns
 returns c =
     let s = c .before in
-    let a = s .args .a in
-    let d = s .args .d in
-    let p = s .pre .1 in
-    let e = simp (toZ-ofZ, s .fits .a, s .fits .d, twice-fits a d p, sum-fits a d p, div-fits a d p) at (c .floor-div .ensures) in
-    simp (toZ-ofZ, sfits-of, c .floor-div .ok) (e ∙ same a d (s .pre .0))
+    let k = known s in
+    let e = simp (toZ-ofZ, s .fits .a, s .fits .d, half-fits s, k .fits) at (c .floor-div .ensures) in
+    simp (toZ-ofZ, sfits-of, c .floor-div .ok) (e ∙ k .same)
 
 pub nearest-div-spec : {M : Type 1} → statement M
-nearest-div-spec = tie.close (tie.spec mul-floor-div add-floor-div mul-floor-div-2 floor-div-requires returns)
+nearest-div-spec = tie.close (tie.spec div-floor-div add-floor-div floor-div-requires returns)

@@ -4,7 +4,7 @@ use mathlib.Core.Path.{_≡_, refl, sym}
 use Prim.Native.Nat.{_+_, _*_, _/_, _^_, _≤_, _<_}
 use native.Mathlib.Omega.{arith}
 use Rattle.exact.proofs.Largest.{root-is}
-use Rattle.exact.proofs.Newton.{step-above, step-below, square-le, guess-pos}
+use Rattle.exact.proofs.Newton.{step-above, square-le, guess-pos}
 use Rattle.exact.proofs.root.Statement.{statement}
 use Rattle.exact.proofs.root.Tie as tie
 

@@ -1,4 +1,4 @@
--- `frame::frame_of` meets its contract: the rows of numbers are the terms of the definitions, which antt computes.
+-- `frame::frame_of` meets its contract: the rows stand for the printed terms in whole units, which antt computes, and the true obliquity fits.
 use mathlib.Core.Path.{_≡_, refl, ap}
 use mathlib.Core.List.{List}
 use Prim.Native.Nat.{_≤_, _<_, _^_}
@@ -14,9 +14,13 @@ use mir.Val.{SFits}
 use Rattle.exact.specs.Division.{floorDiv, nearest}
 use Rattle.exact.proofs.Differences.{split, zs}
 use Rattle.exact.proofs.Machine.{ok-fits, fits-lt}
-use Rattle.series.specs.Term.{termOf, weight}
-use Rattle.series.specs.Sum.{weights, small, allSmall}
-use Rattle.series.proofs.Sums.{ready}
+use Rattle.secular.specs.Sizes.{most}
+use Rattle.epoch.proofs.Sizes.{q-size, q-fits}
+use Rattle.arguments.specs.Table.{count, obliquity}
+use Rattle.series.specs.Sum.{weights}
+use Rattle.series.specs.Rows.{kept, steadyTerm, steadyTerms, varyingTerm}
+use Rattle.series.specs.Sizes.{counts}
+use Rattle.series.proofs.Sizes.{sum-ready}
 use Rattle.frame.specs.Nutation.{deltaPsi, deltaEpsilon, meanObliquity, epsilon}
 use Rattle.frame.proofs.frame_of.Statement.{statement}
 use Rattle.frame.proofs.frame_of.Tie as tie
@@ -27,64 +31,86 @@ shared-slice-copy-out-obliquity c = search needs
 slice-aggregate-rounded-sum : tie.Need-slice-aggregate-rounded-sum
 slice-aggregate-rounded-sum c = search needs
 
-rounded-sum-requires : tie.Need-rounded-sum-requires
-unfolding weights weight termOf small allSmall
-rounded-sum-requires c κs =
-    let s = c .before .before in
-    ready 11 (s .pre .0) (simp (toZ-ofZ, s .fits .q) (s .pre .1)) (s .pre .2) (s .pre .3) refl (lit≤ tt)
-
 slice-aggregate-rounded-sum-2 : tie.Need-slice-aggregate-rounded-sum-2
 slice-aggregate-rounded-sum-2 c = search needs
 
+slice-aggregate-rounded-sum-3 : tie.Need-slice-aggregate-rounded-sum-3
+slice-aggregate-rounded-sum-3 c = search needs
+
+rounded-sum-requires : tie.Need-rounded-sum-requires
+unfolding weights most kept steadyTerm steadyTerms varyingTerm counts
+rounded-sum-requires c κs =
+    let p = c .before .before .before .before .before .pre in
+    simp (toZ-ofZ, q-fits (p .2)) (sum-ready count (p .0) (p .1 .reduced) (p .1 .all) (q-size (p .2)) tt tt tt)
+
+slice-aggregate-rounded-sum-4 : tie.Need-slice-aggregate-rounded-sum-4
+slice-aggregate-rounded-sum-4 c = search needs
+
+slice-aggregate-rounded-sum-5 : tie.Need-slice-aggregate-rounded-sum-5
+slice-aggregate-rounded-sum-5 c = search needs
+
+slice-aggregate-rounded-sum-6 : tie.Need-slice-aggregate-rounded-sum-6
+slice-aggregate-rounded-sum-6 c = search needs
+
 rounded-sum-requires-2 : tie.Need-rounded-sum-requires-2
-unfolding weights weight termOf small allSmall
+unfolding weights most kept steadyTerm steadyTerms varyingTerm counts
 rounded-sum-requires-2 c κs =
-    let s = c .before .before .before .before in
-    ready 11 (s .pre .0) (simp (toZ-ofZ, s .fits .q) (s .pre .1)) (s .pre .2) (s .pre .3) refl (lit≤ tt)
+    let p = c .before .before .before .before .before .before .before .before .before .before .pre in
+    simp (toZ-ofZ, q-fits (p .2)) (sum-ready count (p .0) (p .1 .reduced) (p .1 .all) (q-size (p .2)) tt tt tt)
 
 -- ---- what was found
 module _ (c : tie.After-rounded-sum2) where
   abbrev one : tie.After-rounded-sum
-  one = c .before .before
+  one = c .before .before .before .before .before
 
   abbrev start : tie.Start
-  start = one .before .before .before
+  start = one .before .before .before .before .before .before
 
   abbrev arguments : List ℤ
   arguments = start .args .arguments .now
 
-  mean : natAbs (getD arguments 7 (pos 0)) < 2 ^ 34
-  mean = omega (arith, start .pre .2 7)
+  abbrev q : ℤ
+  q = start .args .e .q
 
-  mean-fits : SFits w64 (getD arguments 7 (pos 0))
-  mean-fits = fits-lt (2 ^ 34) _ mean refl
+  psi : (one .rounded-sum .result ≡ deltaPsi arguments q) × (natAbs (one .rounded-sum .result) ≤ 2 ^ 20)
+  unfolding deltaPsi weights most kept steadyTerm steadyTerms varyingTerm nearest floorDiv
+  psi = (simp (toZ-ofZ, q-fits (start .pre .2)) at (one .rounded-sum .ensures .0), le-trans (one .rounded-sum .ensures .1) (lit≤ tt))
 
-  psi : (one .rounded-sum .result ≡ deltaPsi arguments (start .args .q)) × (natAbs (one .rounded-sum .result) ≤ 2 ^ 20)
-  unfolding deltaPsi weights weight termOf nearest floorDiv
-  psi = (simp (toZ-ofZ, start .fits .q) at (one .rounded-sum .ensures .0), le-trans (one .rounded-sum .ensures .1) (lit≤ tt))
+  eps : (c .rounded-sum2 .result ≡ deltaEpsilon arguments q) × (natAbs (c .rounded-sum2 .result) ≤ 2 ^ 20)
+  unfolding deltaEpsilon weights most kept steadyTerm steadyTerms varyingTerm nearest floorDiv
+  eps = (simp (toZ-ofZ, q-fits (start .pre .2)) at (c .rounded-sum2 .ensures .0), le-trans (c .rounded-sum2 .ensures .1) (lit≤ tt))
 
-  eps : (c .rounded-sum2 .result ≡ deltaEpsilon arguments (start .args .q)) × (natAbs (c .rounded-sum2 .result) ≤ 2 ^ 20)
-  unfolding deltaEpsilon weights weight termOf nearest floorDiv
-  eps = (simp (toZ-ofZ, start .fits .q) at (c .rounded-sum2 .ensures .0), le-trans (c .rounded-sum2 .ensures .1) (lit≤ tt))
+  abbrev mean : ℤ
+  mean = getD arguments obliquity (pos 0)
 
-  sum : SFits w64 (getD arguments 7 (pos 0) +ℤ c .rounded-sum2 .result) × (natAbs (getD arguments 7 (pos 0) +ℤ c .rounded-sum2 .result) < 2 ^ 35)
-  sum = go (getD arguments 7 (pos 0)) (c .rounded-sum2 .result) mean (eps .1)
+  mean-size : natAbs mean < 2 ^ 34
+  mean-size = omega (arith, start .pre .1 .reduced obliquity)
+
+  sum : SFits w64 (mean +ℤ c .rounded-sum2 .result) × (natAbs (mean +ℤ c .rounded-sum2 .result) < 2 ^ 35)
+  sum = go mean (c .rounded-sum2 .result) mean-size (eps .1)
     where
       go : (a b : ℤ) → natAbs a < 2 ^ 34 → natAbs b ≤ 2 ^ 20 → SFits w64 (a +ℤ b) × (natAbs (a +ℤ b) < 2 ^ 35)
       go a b = rw (split a, split b) (simp zs (omega arith))
 
-add-t15 : tie.Need-add-t15
-add-t15 c = simp (toZ-ofZ, mean-fits c, ok-fits (c .rounded-sum2 .result) (c .rounded-sum2 .ok)) (sum c .0)
+  fit : SFits w64 mean × SFits w64 (one .rounded-sum .result) × SFits w64 (c .rounded-sum2 .result)
+  fit = (
+    fits-lt (2 ^ 34) mean mean-size refl,
+    ok-fits (one .rounded-sum .result) (one .rounded-sum .ok),
+    ok-fits (c .rounded-sum2 .result) (c .rounded-sum2 .ok),
+  )
+
+add-t21 : tie.Need-add-t21
+add-t21 c = simp (toZ-ofZ, fit c .0, fit c .2) (sum c .0)
 
 returns : tie.Need-returns
 unfolding meanObliquity epsilon
 returns c =
-    simp (toZ-ofZ, mean-fits c, ok-fits (one c .rounded-sum .result) (one c .rounded-sum .ok), ok-fits (c .rounded-sum2 .result) (c .rounded-sum2 .ok), sum c .0)
+    simp (toZ-ofZ, fit c .0, fit c .1, fit c .2, sum c .0)
     (record {
       obliquity = refl;
       nutation = psi c .0;
-      epsilon = ap (λ (z : ℤ). getD (arguments c) 7 (pos 0) +ℤ z) (eps c .0);
-      obliquity-size = mean c;
+      epsilon = ap (λ (z : ℤ). mean c +ℤ z) (eps c .0);
+      obliquity-size = mean-size c;
       nutation-size = psi c .1;
       epsilon-size = sum c .1;
     })
@@ -92,4 +118,5 @@ returns c =
 pub frame-of-spec : {M : Type 1} → statement M
 frame-of-spec =
     tie.close
-    (tie.spec shared-slice-copy-out-obliquity slice-aggregate-rounded-sum rounded-sum-requires slice-aggregate-rounded-sum-2 rounded-sum-requires-2 add-t15 returns)
+    (tie.spec shared-slice-copy-out-obliquity slice-aggregate-rounded-sum slice-aggregate-rounded-sum-2 slice-aggregate-rounded-sum-3 rounded-sum-requires
+    slice-aggregate-rounded-sum-4 slice-aggregate-rounded-sum-5 slice-aggregate-rounded-sum-6 rounded-sum-requires-2 add-t21 returns)

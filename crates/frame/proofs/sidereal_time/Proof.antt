@@ -1,5 +1,5 @@
 -- `frame::sidereal_time` meets its contract: the polynomial is an argument like any other, and reducing it first changes nothing (reduction is a congruence).
-use mathlib.Core.Path.{_≡_, refl, sym, ap, ap₂, _∙_}
+use mathlib.Core.Path.{_≡_, refl, ap, ap₂, _∙_}
 use Prim.Native.Nat.{ℕ, _≤_, _<_, _^_}
 use native.Mathlib.Omega.{arith}
 use borrow.Author.Needs.{needs}
@@ -9,14 +9,16 @@ use mir.Syntax.{w64}
 use mir.Val.{SFits}
 use Rattle.exact.specs.Angle.{turn, reduced}
 use Rattle.exact.specs.Century.{century}
-use Rattle.exact.specs.Division.{floorDiv}
+use Rattle.exact.specs.Division.{floorDiv, nearest}
 use Rattle.exact.proofs.Differences.{split, zs}
 use Rattle.exact.proofs.Machine.{ok-fits}
 use Rattle.exact.proofs.Turn.{reduced-part}
-use Rattle.arguments.specs.Argument.{argument}
-use Rattle.arguments.specs.Table.{coefficients}
-use Rattle.arguments.specs.declared.Coefficients.{Coefficients}
-use Rattle.frame.specs.Sidereal.{equinoxes, siderealTime}
+use Rattle.secular.specs.Polynomial.{polynomial, value}
+use Rattle.epoch.specs.declared.Epoch.{Epoch}
+use Rattle.epoch.proofs.Sizes.{n-size, n-fits}
+use Rattle.arguments.specs.Argument.{at, argument}
+use Rattle.arguments.specs.Sizes.{sized}
+use Rattle.frame.specs.Sidereal.{sidereal, equinoxes, siderealTime}
 use Rattle.frame.proofs.sidereal_time.Statement.{statement}
 use Rattle.frame.proofs.sidereal_time.Tie as tie
 
@@ -24,96 +26,109 @@ use Rattle.frame.proofs.sidereal_time.Tie as tie
 abbrev day : ℤ → ℤ
 day n = pos 150 *ℤ (n +ℤ pos 43200000)
 
-abbrev Sizes : ℤ → ℤ → ℤ → Type 0
-Sizes n a e = SFits w64 (n +ℤ pos 43200000) × SFits w64 (day n) × SFits w64 (day n +ℤ a) × SFits w64 (day n +ℤ a +ℤ e)
+abbrev Sums : ℤ → ℤ → ℤ → Type 0
+Sums n a e =
+    SFits w64 (n +ℤ pos 43200000) × SFits w64 (day n) × SFits w64 (day n +ℤ a) × SFits w64 (day n +ℤ a +ℤ e) × (natAbs (day n +ℤ a +ℤ e) ≤ 2 ^ 61)
 
-sizes : (n a e : ℤ) → natAbs n < 2 ^ 45 → natAbs a < turn → natAbs e ≤ 2 ^ 20 → Sizes n a e
-sizes n a e = rw (split n, split a, split e) (simp zs (omega arith))
-
-abbrev sidereal : Coefficients
-sidereal = coefficients (pos 3588875400) (pos 1296027681300) (pos 13935)
+sums : (n a e : ℤ) → natAbs n < 2 ^ 43 → natAbs a < turn → natAbs e ≤ 2 ^ 20 → Sums n a e
+sums n a e = rw (split n, split a, split e) (simp zs (omega arith))
 
 -- the polynomial reduced first
-whole : (n q Δψ ε : ℤ) → reduced (day n +ℤ pos (argument sidereal n q) +ℤ equinoxes Δψ ε) ≡ siderealTime n q Δψ ε
+whole : (e : Epoch) (Δψ ε : ℤ) → reduced (day (e .n) +ℤ pos (argument sidereal e) +ℤ equinoxes Δψ ε) ≡ siderealTime e Δψ ε
 unfolding argument siderealTime
-whole n q Δψ ε =
-    let c = pos 3588875400 in
-    let l = floorDiv (pos 1296027681300 *ℤ n) century in
-    let s = floorDiv (pos 13935 *ℤ (q *ℤ q)) (10 ^ 12) in
-    let e = equinoxes Δψ ε in
-    ap reduced (front (day n) (pos (reduced (c +ℤ l +ℤ s))) e) ∙ reduced-part (c +ℤ l +ℤ s) (day n +ℤ e) ∙ ap reduced (back (day n) c l s e)
+whole e Δψ ε =
+    let l = floorDiv (at sidereal 1 *ℤ e .n) century in
+    let v = value (polynomial (at sidereal 0) (pos 0) (at sidereal 2) (10 ^ 12)) (e .q) in
+    let x = equinoxes Δψ ε in
+    ap reduced (front (day (e .n)) (pos (reduced (l +ℤ v))) x) ∙ reduced-part (l +ℤ v) (day (e .n) +ℤ x) ∙ ap reduced (back (day (e .n)) l v x)
   where
-    front : (d a e : ℤ) → d +ℤ a +ℤ e ≡ a +ℤ (d +ℤ e)
-    front d a e = rw (split d, split a, split e) (simp zs (omega arith))
+    front : (d a x : ℤ) → d +ℤ a +ℤ x ≡ a +ℤ (d +ℤ x)
+    front d a x = rw (split d, split a, split x) (simp zs (omega arith))
 
-    back : (d c l s e : ℤ) → c +ℤ l +ℤ s +ℤ (d +ℤ e) ≡ d +ℤ c +ℤ l +ℤ s +ℤ e
-    back d c l s e = rw (split d, split c, split l, split s, split e) (simp zs (omega arith))
+    back : (d l v x : ℤ) → l +ℤ v +ℤ (d +ℤ x) ≡ d +ℤ l +ℤ v +ℤ x
+    back d l v x = rw (split d, split l, split v, split x) (simp zs (omega arith))
 
 -- ---- what is known at each place
-module _ (c : tie.After-argument) where
+module _ (c : tie.After-struct-told) where
   abbrev start : tie.Start
-  start = c .before
+  start = c .before .before .before
 
-  abbrev polynomial : ℤ
-  polynomial = pos (c .argument .result)
+  abbrev e : Epoch
+  e = start .args .universal
 
-  polynomial-fits : SFits w64 polynomial
-  polynomial-fits = record { sfits = omega (arith, c .argument .ensures .1) }
+  abbrev found : ℕ
+  found = c .before .before .argument .result
 
-  polynomial-is : c .argument .result ≡ argument sidereal (start .args .n) (start .args .q)
-  polynomial-is = simp (toZ-ofZ, start .fits .n, start .fits .q) at (c .argument .ensures .0)
+  found-is : (found ≡ argument sidereal e) × (found < turn)
+  unfolding sidereal nearest floorDiv
+  found-is = c .before .before .argument .ensures
+
+  fit : SFits w64 (e .n) × SFits w64 (pos found)
+  fit = (n-fits (start .pre .1), record { sfits = omega (arith, found-is .1) })
+
+  -- before the last addend is known
+  early : Sums (e .n) (pos found) (pos 0)
+  early = sums (e .n) (pos found) (pos 0) (n-size (start .pre .1)) (found-is .1) (omega arith)
 
 module _ (c : tie.After-equinoxes) where
-  abbrev found : tie.After-argument
-  found = c .before
+  abbrev d : tie.After-struct-told
+  d = c .before
 
-  known : Sizes (start found .args .n) (polynomial found) (c .equinoxes .result)
-  known = sizes (start found .args .n) (polynomial found) (c .equinoxes .result) (start found .pre .1 .instant) (found .argument .ensures .1) (c .equinoxes .ensures .1)
+  abbrev x : ℤ
+  x = c .equinoxes .result
 
-  equinoxes-is : c .equinoxes .result ≡ equinoxes (start found .args .nutation) (start found .args .epsilon)
-  equinoxes-is = simp (toZ-ofZ, start found .fits .nutation, start found .fits .epsilon) at (c .equinoxes .ensures .0)
+  late : Sums (e d .n) (pos (found d)) x
+  late = sums (e d .n) (pos (found d)) x (n-size (start d .pre .1)) (found-is d .1) (c .equinoxes .ensures .1)
 
--- before the last addend is known
-early : (c : tie.After-argument) → Sizes (start c .args .n) (polynomial c) (pos 0)
-early c = sizes (start c .args .n) (polynomial c) (pos 0) (start c .pre .1 .instant) (c .argument .ensures .1) (omega arith)
+  x-is : x ≡ equinoxes (start d .args .nutation) (start d .args .epsilon)
+  x-is = simp (toZ-ofZ, start d .fits .nutation, start d .fits .epsilon) at (c .equinoxes .ensures .0)
+
+  x-fits : SFits w64 x
+  x-fits = ok-fits x (c .equinoxes .ok)
 
 -- ---- the needs
 argument-requires : tie.Need-argument-requires
-argument-requires c κs = search needs
+unfolding sized
+argument-requires c κs = (refl, c .pre .1)
 
-cast-polynomial : tie.Need-cast-polynomial
-cast-polynomial c = search needs
+cast-beyond : tie.Need-cast-beyond
+cast-beyond c = search needs
 
-add-reduced : tie.Need-add-reduced
-add-reduced c = simp (toZ-ofZ, start c .fits .n) (early c .0)
+add-reduced-bounded : tie.Need-add-reduced-bounded
+add-reduced-bounded c = simp (toZ-ofZ, fit c .0) (early c .0)
 
-mul-reduced : tie.Need-mul-reduced
-mul-reduced c = simp (toZ-ofZ, start c .fits .n, early c .0) (early c .1)
+mul-reduced-bounded : tie.Need-mul-reduced-bounded
+mul-reduced-bounded c = simp (toZ-ofZ, fit c .0, early c .0) (early c .1)
 
-add-reduced-2 : tie.Need-add-reduced-2
-add-reduced-2 c = simp (toZ-ofZ, start c .fits .n, early c .0, early c .1, polynomial-fits c) (early c .2)
+add-reduced-bounded-2 : tie.Need-add-reduced-bounded-2
+add-reduced-bounded-2 c = simp (toZ-ofZ, fit c .0, fit c .1, early c .0, early c .1) (early c .2)
 
 equinoxes-requires : tie.Need-equinoxes-requires
 equinoxes-requires c κs = search needs
 
-add-reduced-3 : tie.Need-add-reduced-3
-add-reduced-3 c =
-    let k = known c in
-    simp (toZ-ofZ, start (found c) .fits .n, k .0, k .1, k .2, polynomial-fits (found c), ok-fits (c .equinoxes .result) (c .equinoxes .ok)) (k .3)
+add-reduced-bounded-3 : tie.Need-add-reduced-bounded-3
+add-reduced-bounded-3 c =
+    let f = fit (d c) in
+    let l = late c in
+    simp (toZ-ofZ, f .0, f .1, l .0, l .1, l .2, x-fits c) (l .3)
 
-reduced-requires : tie.Need-reduced-requires
-reduced-requires c κs = search needs
+reduced-bounded-requires : tie.Need-reduced-bounded-requires
+reduced-bounded-requires c κs =
+    let f = fit (d c) in
+    let l = late c in
+    simp (toZ-ofZ, f .0, f .1, l .0, l .1, l .2, l .3, x-fits c) (l .4)
 
 returns : tie.Need-returns
 returns c =
-    let d = c .before in
-    let f = found d in
-    let s = start f in
-    let k = known d in
-    let e = simp (toZ-ofZ, s .fits .n, k .0, k .1, k .2, k .3, polynomial-fits f, ok-fits (d .equinoxes .result) (d .equinoxes .ok)) at (c .reduced .ensures .0) in
-    let parts = ap₂ (λ (a : ℕ) (x : ℤ). reduced (day (s .args .n) +ℤ pos a +ℤ x)) (polynomial-is f) (equinoxes-is d) in
-    (e ∙ parts ∙ whole (s .args .n) (s .args .q) (s .args .nutation) (s .args .epsilon), c .reduced .ensures .1)
+    let b = c .before in
+    let f = fit (d b) in
+    let l = late b in
+    let r = simp (toZ-ofZ, f .0, f .1, l .0, l .1, l .2, l .3, x-fits b) at (c .reduced-bounded .ensures .0) in
+    let is = ap₂ (λ (a : ℕ) (x : ℤ). reduced (day (e (d b) .n) +ℤ pos a +ℤ x)) (found-is (d b) .0) (x-is b) in
+    (r ∙ is ∙ whole (e (d b)) (start (d b) .args .nutation) (start (d b) .args .epsilon), c .reduced-bounded .ensures .1)
 
 pub sidereal-time-spec : {M : Type 1} → statement M
 sidereal-time-spec =
-    tie.close (tie.spec argument-requires cast-polynomial add-reduced mul-reduced add-reduced-2 equinoxes-requires add-reduced-3 reduced-requires returns)
+    tie.close
+    (tie.spec argument-requires cast-beyond add-reduced-bounded mul-reduced-bounded add-reduced-bounded-2 equinoxes-requires add-reduced-bounded-3
+    reduced-bounded-requires returns)

@@ -1,12 +1,12 @@
 -- `horizon::sight` meets its contract: two turns, and the angles of what they give.
 use mathlib.Core.Path.{refl}
-use Prim.Native.Nat.{ℕ}
+use Prim.Native.Nat.{ℕ, _^_}
 use native.Mathlib.Omega.{arith}
 use borrow.Author.Needs.{needs}
 use mir.Facts.{toZ-ofZ}
 use mir.Syntax.{w64}
 use mir.Val.{SFits}
-use Rattle.exact.proofs.Machine.{fits-le}
+use Rattle.exact.proofs.Machine.{fits-le, fits-lt}
 use Rattle.rotation.specs.Length.{Bounded, componentMost}
 use Rattle.rotation.proofs.Sizes.{components-le}
 use Rattle.horizon.specs.Horizon.{at, viewFrom}
@@ -32,13 +32,13 @@ array-copy-out-sight-of-4 : tie.Need-array-copy-out-sight-of-4
 array-copy-out-sight-of-4 c = search needs
 
 module _ (c : tie.After-to-horizon) where
-  m-le : Bounded componentMost (c .before .to-meridian .result)
-  m-le = components-le (c .before .to-meridian .result) (omega arith)
+  m-le : Bounded componentMost (c .before .before .to-meridian .result)
+  m-le = components-le (c .before .before .to-meridian .result) (omega arith)
 
   h-le : Bounded componentMost (c .to-horizon .result)
   h-le = components-le (c .to-horizon .result) (omega arith)
 
-  m-fits : (i : ℕ) → SFits w64 (at (c .before .to-meridian .result) i)
+  m-fits : (i : ℕ) → SFits w64 (at (c .before .before .to-meridian .result) i)
   m-fits i = fits-le componentMost _ (m-le i) refl
 
   h-fits : (i : ℕ) → SFits w64 (at (c .to-horizon .result) i)
@@ -47,16 +47,16 @@ module _ (c : tie.After-to-horizon) where
 sight-of-requires : tie.Need-sight-of-requires
 sight-of-requires c κs =
     let d = c .before .before .before .before in
-    simp (toZ-ofZ, m-fits d 0, h-fits d 0, h-fits d 1, h-fits d 2) (d .before .before .pre .0, m-le d 0, h-le d 0, h-le d 1, h-le d 2)
+    simp (toZ-ofZ, m-fits d 0, h-fits d 0, h-fits d 1, h-fits d 2) (d .before .before .before .before .pre .0, m-le d 0, h-le d 0, h-le d 1, h-le d 2)
 
 returns : tie.Need-returns
 unfolding viewFrom
 returns c =
     let d = c .before .before .before .before .before in
-    let s = d .before .before in
+    let s = d .before .before .before .before in
     let e = simp (toZ-ofZ, m-fits d 0, h-fits d 0, h-fits d 1, h-fits d 2) at (c .sight-of .ensures .0) in
-    let m = simp (toZ-ofZ, s .fits .longitude) at (d .before .to-meridian .ensures .0) in
-    let h = simp (toZ-ofZ, s .fits .latitude) at (d .to-horizon .ensures .0) in
+    let m = simp (toZ-ofZ, fits-lt (2 ^ 40) (s .args .place .longitude) (s .pre .3 .longitude) refl) at (d .before .before .to-meridian .ensures .0) in
+    let h = simp (toZ-ofZ, fits-lt (2 ^ 40) (s .args .place .latitude) (s .pre .3 .latitude) refl) at (d .to-horizon .ensures .0) in
     (rw (h, m) at e, c .sight-of .ensures .1)
 
 pub sight-spec : {M : Type 1} → statement M

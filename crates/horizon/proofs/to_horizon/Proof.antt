@@ -16,7 +16,9 @@ sub-about-y : tie.Need-sub-about-y
 sub-about-y c = simp (toZ-ofZ, c .fits .latitude) (negated (c .args .latitude) (omega arith) .0)
 
 about-y-requires : tie.Need-about-y-requires
-about-y-requires c κs = search needs
+about-y-requires c κs =
+    let n = negated (c .args .latitude) (omega arith) in
+    simp (toZ-ofZ, c .fits .latitude, n .0) (c .pre .0, omega (arith, n .2))
 
 apply-requires : tie.Need-apply-requires
 apply-requires c κs = search needs

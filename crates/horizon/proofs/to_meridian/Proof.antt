@@ -1,6 +1,6 @@
 -- `horizon::to_meridian` meets its contract: the sidereal time, reduced, and the longitude have a sum that fits.
 use mathlib.Core.Path.{_≡_}
-use Prim.Native.Nat.{ℕ, _<_, _^_}
+use Prim.Native.Nat.{ℕ, _≤_, _<_, _^_}
 use native.Mathlib.Omega.{arith}
 use borrow.Author.Needs.{needs}
 use lib.IntN.{ℤ, pos, natAbs, _+ℤ_}
@@ -14,24 +14,27 @@ use Rattle.horizon.specs.Horizon.{meridian}
 use Rattle.horizon.proofs.to_meridian.Statement.{statement}
 use Rattle.horizon.proofs.to_meridian.Tie as tie
 
-sum-fits : (n : ℕ) (z : ℤ) → n < turn → natAbs z < 2 ^ 40 → SFits w64 (pos n +ℤ z)
-sum-fits n z = rw (split z) (simp zs (omega arith))
+sum-size : (n : ℕ) (z : ℤ) → n < turn → natAbs z < 2 ^ 40 → SFits w64 (pos n +ℤ z) × (natAbs (pos n +ℤ z) ≤ 2 ^ 61)
+sum-size n z = rw (split z) (simp zs (omega arith))
 
 module _ (s : tie.Start) where
   is-signed : toZ w64 (s .args .sidereal) ≡ pos (s .args .sidereal)
   is-signed = as-signed (s .args .sidereal) (omega arith)
 
-  fits : SFits w64 (pos (s .args .sidereal) +ℤ s .args .longitude)
-  fits = sum-fits (s .args .sidereal) (s .args .longitude) (s .pre .2) (s .pre .3)
+  abbrev sum : ℤ
+  sum = pos (s .args .sidereal) +ℤ s .args .longitude
+
+  sum-in : SFits w64 sum × (natAbs sum ≤ 2 ^ 61)
+  sum-in = sum-size (s .args .sidereal) (s .args .longitude) (s .pre .2) (s .pre .3)
 
 cast-about-z : tie.Need-cast-about-z
 cast-about-z c = search needs
 
 add-about-z : tie.Need-add-about-z
-add-about-z c = simp (is-signed c, toZ-ofZ, c .fits .longitude) (fits c)
+add-about-z c = simp (is-signed c, toZ-ofZ, c .fits .longitude) (sum-in c .0)
 
 about-z-requires : tie.Need-about-z-requires
-about-z-requires c κs = search needs
+about-z-requires c κs = simp (is-signed c, toZ-ofZ, c .fits .longitude, sum-in c .0) (c .pre .0, sum-in c .1)
 
 apply-requires : tie.Need-apply-requires
 apply-requires c κs = search needs
@@ -40,7 +43,7 @@ returns : tie.Need-returns
 unfolding meridian
 returns c =
     let s = c .before .before in
-    let e = simp (is-signed s, toZ-ofZ, s .fits .longitude, fits s) at (c .before .about-z .ensures .0) in
+    let e = simp (is-signed s, toZ-ofZ, s .fits .longitude, sum-in s .0) at (c .before .about-z .ensures .0) in
     (cc (c .apply .ensures .0, e), c .apply .ensures .1)
 
 pub to-meridian-spec : {M : Type 1} → statement M

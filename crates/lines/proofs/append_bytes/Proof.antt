@@ -1,10 +1,10 @@
 -- `lines::append_bytes` meets its contract. The invariant: the first i bytes are appended. Assumes nothing.
 use Prim.Native.Nat.{_+_, _-_, _≤_}
-use mathlib.Core.Path.{_≡_, refl, sym, ap, _∙_}
+use mathlib.Core.Path.{_≡_, refl}
 use native.Mathlib.Omega.{arith}
 use native.Mathlib.Numerals.{add-one}
 use lib.ListN.{length, take, getD, length-set}
-use lib.Seq.{take-suc, take-length, take-all}
+use lib.Seq.{take-suc, take-all}
 use Rattle.lines.specs.Writing.{Appends}
 use Rattle.lines.proofs.Appending.{append-none, append-both, append-byte}
 use Rattle.lines.proofs.append_bytes.Statement.{statement}

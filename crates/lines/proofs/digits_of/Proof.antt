@@ -1,9 +1,9 @@
 -- `lines::digits_of` meets its contract. The invariant: the number so far, with the digits to come, makes what all make, and is below 10^i.
 -- Assumes nothing.
-use Prim.Native.Nat.{_+_, _-_, _^_, _<_, _≤_}
-use mathlib.Core.Path.{_≡_, refl, sym, _∙_}
+use Prim.Native.Nat.{_-_, _^_, _<_, _≤_}
+use mathlib.Core.Path.{_≡_, refl, _∙_}
 use native.Mathlib.Omega.{arith}
-use lib.ListN.{length, drop, getD}
+use lib.ListN.{length, drop}
 use borrow.Author.Needs.{needs}
 use Rattle.lines.specs.Numbers.{digitsFrom, digitsOf}
 use Rattle.lines.proofs.Scans.{digit-low, digit-high, digit, digits-end, digit-more, at-most-eighteen, too-short, too-long, right-length}

@@ -16,7 +16,8 @@ use Rattle.rotation.specs.Rotation.{sinOf, cosOf}
 use Rattle.rotation.specs.Length.{Bounded}
 use Rattle.rotation.proofs.Signed.{negated}
 use Rattle.rotation.proofs.Sizes.{bounded}
-use Rattle.polaris.specs.Apparent.{aberrationMost, aberrationOf, aberration}
+use Rattle.polaris.specs.Apparent.{aberrationOf, aberration}
+use Rattle.polaris.specs.Sizes.{aberrationMost}
 use Rattle.polaris.proofs.aberration.Statement.{statement}
 use Rattle.polaris.proofs.aberration.Tie as tie
 
@@ -37,11 +38,11 @@ module _ (c : tie.After-cos) where
   minus-is : minus ≡ negℤ (Cos (start .args .g))
   minus-is = negated (c .cos .result) (omega (arith, c .cos .ensures .1)) .1 ∙ ap negℤ (c .cos .ensures .0)
 
-  angle-is : c .before .reduced .result ≡ reduced (start .args .epsilon)
-  angle-is = simp (toZ-ofZ, start .fits .epsilon) at (c .before .reduced .ensures .0)
+  angle-is : c .before .reduced-bounded .result ≡ reduced (start .args .epsilon)
+  angle-is = simp (toZ-ofZ, start .fits .epsilon) at (c .before .reduced-bounded .ensures .0)
 
-reduced-requires : tie.Need-reduced-requires
-reduced-requires c κs = search needs
+reduced-bounded-requires : tie.Need-reduced-bounded-requires
+reduced-bounded-requires c κs = simp (toZ-ofZ, c .fits .epsilon) (omega arith)
 
 cos-requires : tie.Need-cos-requires
 cos-requires c κs = search needs
@@ -120,5 +121,5 @@ returns c =
 pub aberration-spec : {M : Type 1} → statement M
 aberration-spec =
     tie.close
-    (tie.spec reduced-requires cos-requires sub-c sin-requires share-requires cos-requires-2 share-requires-2 share-requires-3 sin-requires-2 share-requires-4
+    (tie.spec reduced-bounded-requires cos-requires sub-c sin-requires share-requires cos-requires-2 share-requires-2 share-requires-3 sin-requires-2 share-requires-4
     share-requires-5 returns)

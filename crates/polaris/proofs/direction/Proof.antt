@@ -10,6 +10,9 @@ use Rattle.polaris.proofs.direction.Tie as tie
 tropical-millionths-requires : tie.Need-tropical-millionths-requires
 tropical-millionths-requires c κs = search needs
 
+elements-of-requires : tie.Need-elements-of-requires
+elements-of-requires c κs = search needs
+
 place-of-date-requires : tie.Need-place-of-date-requires
 place-of-date-requires c κs = search needs
 
@@ -24,12 +27,14 @@ unfolding direction
 returns c =
     let b = c .before in
     let a = b .before in
-    let p = a .before .tropical-millionths in
-    let f = a .before .before .fits in
-    let millionths = simp (toZ-ofZ, f .n) at (p .ensures .0) in
-    let place = simp (toZ-ofZ, ok-fits (p .result) (p .ok), f .obliquity, f .nutation, f .epsilon) at (a .place-of-date .ensures .0) in
+    let k = a .before in
+    let p = k .before .tropical-millionths in
+    let f = k .before .before .fits in
+    let elements = simp (toZ-ofZ, ok-fits (p .result) (p .ok)) at (k .elements-of .ensures .0) in
+    let place = simp (toZ-ofZ, f .obliquity, f .nutation, f .epsilon) at (a .place-of-date .ensures .0) in
     let aberration = simp (toZ-ofZ, f .epsilon) at (b .aberration .ensures .0) in
-    (cc (c .plus .ensures .0, millionths, place, aberration), omega (arith, c .plus .ensures .1, a .place-of-date .ensures .1))
+    (cc (c .plus .ensures .0, p .ensures .0, elements, place, aberration), omega (arith, c .plus .ensures .1, a .place-of-date .ensures .1))
 
 pub direction-spec : {M : Type 1} → statement M
-direction-spec = tie.close (tie.spec tropical-millionths-requires place-of-date-requires aberration-requires plus-requires returns)
+direction-spec =
+    tie.close (tie.spec tropical-millionths-requires elements-of-requires place-of-date-requires aberration-requires plus-requires returns)

@@ -10,7 +10,7 @@ use mir.Val.{SFits}
 use Rattle.exact.proofs.Machine.{fits-le}
 use Rattle.rotation.specs.Length.{componentMost}
 use Rattle.rotation.proofs.Sizes.{components-le}
-use Rattle.polaris.specs.Apparent.{aberrationMost}
+use Rattle.polaris.specs.Sizes.{aberrationMost}
 use Rattle.polaris.proofs.Sizes.{sum-fits, plus-le}
 use Rattle.polaris.proofs.Place.{plus-is}
 use Rattle.polaris.proofs.plus.Statement.{statement}

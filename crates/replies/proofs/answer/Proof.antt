@@ -1,14 +1,13 @@
 -- `replies::answer` meets its contract. Assumes nothing.
 use native.Mathlib.Omega.{arith}
-use mathlib.Core.Path.{_≡_, refl, sym, ap, _∙_}
 use Rattle.lines.proofs.Appending.{append-both}
 use Rattle.replies.specs.Answers.{reply, next}
 use borrow.Author.Needs.{needs}
 use Rattle.replies.proofs.answer.Statement.{statement}
 use Rattle.replies.proofs.answer.Tie as tie
 
-command-of-requires : tie.Need-command-of-requires
-command-of-requires c κs = search needs
+session-command-requires : tie.Need-session-command-requires
+session-command-requires c κs = search needs
 
 obey-requires : tie.Need-obey-requires
 obey-requires c κs = search needs
@@ -28,14 +27,14 @@ returns c =
     let n = c .before .before .append-bytes in
     let b = c .before .before .before .before .before .before .before .before in
     let o = b .obey in
-    let e = b .before .before .command-of .ensures in
+    let e = b .before .before .session-command .ensures in
     rw (← e) (o .ensures .0, (append-both (o .ensures .1 .0) (n .ensures), omega (arith, o .ensures .1 .1, n .ensures .ends)))
 
 pub answer-spec : {M : Type 1} → statement M
 answer-spec =
     tie.close
     (tie.spec
-    command-of-requires
+    session-command-requires
     obey-requires
     slice-aggregate-append-bytes
     append-bytes-requires

@@ -34,20 +34,11 @@ append-answer-requires-2 c κs = search needs
 enum-told : tie.Need-enum-told
 enum-told c = search needs
 
-shot-from-card-requires : tie.Need-shot-from-card-requires
-shot-from-card-requires c κs = search needs
+shot-from-card-with-requires : tie.Need-shot-from-card-with-requires
+shot-from-card-with-requires c κs = search needs
 
 append-shot-requires : tie.Need-append-shot-requires
 append-shot-requires c κs = search needs
-
-enum-known-command-4 : tie.Need-enum-known-command-4
-enum-known-command-4 c = search needs
-
-shot-requires : tie.Need-shot-requires
-shot-requires c κs = search needs
-
-append-plain-shot-requires : tie.Need-append-plain-shot-requires
-append-plain-shot-requires c κs = search needs
 
 enum-told-2 : tie.Need-enum-told-2
 enum-told-2 c = search needs
@@ -93,21 +84,13 @@ same-length-4 c = search needs
 returns-4 : tie.Need-returns-4
 returns-4 c =
     let s = c .before .before .before .before .before in
-    rw (s .before .enum-told .given .1, ← (s .shot-from-card .ensures .0)) (s .shot-from-card .ensures .1, c .before .before .append-shot .ensures)
+    rw (s .before .enum-told .given .1, ← (s .shot-from-card-with .ensures .0)) (s .shot-from-card-with .ensures .1, c .before .before .append-shot .ensures)
 
 same-length-5 : tie.Need-same-length-5
 same-length-5 c = search needs
 
 returns-5 : tie.Need-returns-5
-returns-5 c =
-    let s = c .before .before .before in
-    rw (s .before .before .before .command4 .given .1, ← (s .shot .ensures .0)) (refl, c .before .before .append-plain-shot .ensures)
-
-same-length-6 : tie.Need-same-length-6
-same-length-6 c = search needs
-
-returns-6 : tie.Need-returns-6
-returns-6 c = rw (c .before .before .before .before .enum-told2 .given .1) (refl, c .before .before .append-refusal .ensures)
+returns-5 c = rw (c .before .before .before .before .enum-told2 .given .1) (refl, c .before .before .append-refusal .ensures)
 
 pub obey-spec : {M : Type 1} → statement M
 obey-spec =
@@ -122,11 +105,8 @@ obey-spec =
     confirm-requires
     append-answer-requires-2
     enum-told
-    shot-from-card-requires
+    shot-from-card-with-requires
     append-shot-requires
-    enum-known-command-4
-    shot-requires
-    append-plain-shot-requires
     enum-told-2
     append-refusal-requires
     same-length
@@ -138,6 +118,4 @@ obey-spec =
     same-length-4
     returns-4
     same-length-5
-    returns-5
-    same-length-6
-    returns-6)
+    returns-5)

@@ -1,5 +1,5 @@
 -- `replies::session_command` meets its contract. Assumes nothing.
-use mathlib.Core.Path.{_≡_, sym, ap, _∙_}
+use mathlib.Core.Path.{ap, _∙_}
 use lib.ListN.{getD}
 use Rattle.digits.proofs.Lists.{tail-part}
 use Rattle.lines.specs.Numbers.{numbersOf}

@@ -1,6 +1,5 @@
 -- `rotation::about_x` meets its contract: the rows are those of 01's R1.
 use mathlib.Core.Path.{refl}
-use borrow.Author.Needs.{needs}
 use mir.Facts.{toZ-ofZ}
 use Rattle.exact.proofs.Machine.{held}
 use Rattle.rotation.specs.Rotation.{rotation1}
@@ -10,7 +9,7 @@ use Rattle.rotation.proofs.about_x.Statement.{statement}
 use Rattle.rotation.proofs.about_x.Tie as tie
 
 sines-of-requires : tie.Need-sines-of-requires
-sines-of-requires c κs = search needs
+sines-of-requires c κs = simp (toZ-ofZ, c .fits .a) (c .pre)
 
 returns : tie.Need-returns
 unfolding held rotation1

@@ -1,127 +1,72 @@
--- `series::sum` meets its contract. A signed variable that a loop changes stands in the invariant as its bits: here those of the sum of the first i terms.
-use mathlib.Core.Path.{_≡_, refl, sym, ap, _∙_}
-use mathlib.Core.List.{List, []}
-use Prim.Native.Nat.{ℕ, suc, _+_, _-_, _*_, _≤_, _<_, _^_}
-use native.Mathlib.Nat.{le-of-lt}
-use native.Mathlib.Numerals.{add-one}
+-- `series::sum` meets its contract: two sums of one series, each small.
+use mathlib.Core.Path.{_≡_, refl, ap₂, _∙_}
+use mathlib.Core.List.{List, _++_}
+use Prim.Native.Nat.{ℕ, _+_, _*_, _≤_}
+use native.Mathlib.Nat.{le-trans}
 use native.Mathlib.Omega.{arith}
 use borrow.Author.Needs.{needs}
-use lib.IntN.{ℤ, pos, natAbs, _+ℤ_}
-use lib.ListN.{length, getD, take}
-use lib.Seq.{take-all}
+use lib.IntN.{ℤ, natAbs, _+ℤ_}
 use mir.Facts.{toZ-ofZ}
 use mir.Syntax.{w64}
-use mir.Val.{SFits, ofZ, toZ}
-use Rattle.exact.proofs.Machine.{held, held-is, ok-fits, fits-le}
+use mir.Val.{SFits}
+use Rattle.exact.proofs.Differences.{split, zs}
+use Rattle.exact.proofs.Machine.{ok-fits, fits-le}
 use Rattle.sine.specs.Sine.{R, Sin}
-use Rattle.sine.proofs.Monotonicity.{sin-range}
-use Rattle.series.specs.Term.{value, termOf}
-use Rattle.series.specs.Sum.{total, weights, termsOf}
-use Rattle.series.proofs.Sums.{total-more, total-le, weights-take, small-at}
+use Rattle.series.specs.Term.{Term}
+use Rattle.series.specs.Sum.{total, weights}
+use Rattle.series.specs.Rows.{varyingTerms, steadyTerms}
+use Rattle.series.specs.Sizes.{heaviest}
+use Rattle.series.proofs.Sums.{total-append, weights-append}
 use Rattle.series.proofs.sum.Statement.{statement}
 use Rattle.series.proofs.sum.Tie as tie
 
--- ---- of any rows whose weights are small
-module _ (rows : List (List ℤ)) (arguments : List ℤ) (q : ℤ) (hq : natAbs q ≤ 1500000) (light : weights (termsOf rows) ≤ 2 ^ 31) where
-  abbrev part : ℕ → ℤ
-  part i = total Sin arguments q (termsOf (take i rows))
+two-le : (a b : ℤ) (m n : ℕ) → natAbs a ≤ R * m → natAbs b ≤ R * n → natAbs (a +ℤ b) ≤ R * (m + n)
+two-le a b m n = rw (split a, split b) (simp zs (omega arith))
 
-  part-le : (i : ℕ) → natAbs (part i) ≤ R * weights (termsOf (take i rows))
-  part-le i = total-le Sin R arguments q hq (λ a h. sin-range a (le-of-lt h)) (termsOf (take i rows))
+module _ (c : tie.After-steady-sum) where
+  abbrev start : tie.Start
+  start = c .before .before
 
-  part-fits : (i : ℕ) → SFits w64 (part i)
-  part-fits i = fits-le (R * 2 ^ 31) (part i) (omega (arith, part-le i, weights-take rows i)) refl
+  abbrev a : ℤ
+  a = c .before .varying-sum .result
 
-  -- a turn of the loop at i, with the sum's bits in `sum` and the product p
-  module _ (i sum : ℕ) (p : ℤ) (h : i < length rows) (e : sum ≡ ofZ w64 (part i)) (f : SFits w64 p) (is : p ≡ value Sin arguments q (termOf (getD rows i []))) where
-    step : toZ w64 sum +ℤ held p ≡ part (i + 1)
-    step = rw (e, toZ-ofZ (part-fits i), held-is p f, add-one, is) (sym (total-more Sin arguments q rows i h))
+  abbrev b : ℤ
+  b = c .steady-sum .result
 
-    step-fits : SFits w64 (toZ w64 sum +ℤ held p)
-    step-fits = rw step (part-fits (i + 1))
+  abbrev varying : List Term
+  varying = varyingTerms (start .args .varying .now)
 
-    step-bits : ofZ w64 (toZ w64 sum +ℤ held p) ≡ ofZ w64 (part (i + 1))
-    step-bits = ap (ofZ w64) step
+  abbrev steady : List Term
+  steady = steadyTerms (start .args .groups .now) (start .args .rows .now)
 
-  ended : (i sum : ℕ) → length rows ≤ i → sum ≡ ofZ w64 (part i) → (toZ w64 sum ≡ total Sin arguments q (termsOf rows)) × (natAbs (toZ w64 sum) ≤ R * weights (termsOf rows))
-  ended i sum h e =
-      let all = take-all i rows h in
-      let is : toZ w64 sum ≡ total Sin arguments q (termsOf rows) = ap (toZ w64) e ∙ toZ-ofZ (part-fits i) ∙ ap (λ (r : List (List ℤ)). total Sin arguments q (termsOf r)) all in
-      (is, rw is (total-le Sin R arguments q hq (λ a h. sin-range a (le-of-lt h)) (termsOf rows)))
+  a-is : (a ≡ total Sin (start .args .arguments .now) (start .args .q) varying) × (natAbs a ≤ R * weights varying)
+  a-is = simp (toZ-ofZ, start .fits .q) at (c .before .varying-sum .ensures)
 
--- ---- the loop
-abbrev Inv-loop : tie.InvT-loop
-Inv-loop t terms arguments q sum₀ i₀ i-end sum i = (i-end ≡ length terms) × (i ≤ i-end) × (sum ≡ ofZ w64 (total Sin arguments (toZ w64 q) (termsOf (take i terms))))
+  sum-is : a +ℤ b ≡ total Sin (start .args .arguments .now) (start .args .q) (varying ++ steady)
+  sum-is = ap₂ _+ℤ_ (a-is .0) (c .steady-sum .ensures .0 (start .args .q)) ∙ total-append Sin (start .args .arguments .now) (start .args .q) varying steady
 
-abbrev μ-loop : tie.MeasureT-loop
-μ-loop t terms arguments q sum₀ i₀ i-end sum i = i-end - i
+  sum-le : natAbs (a +ℤ b) ≤ R * weights (varying ++ steady)
+  sum-le = rw (weights-append varying steady) (two-le a b (weights varying) (weights steady) (a-is .1) (c .steady-sum .ensures .1))
 
--- q as the machine holds it
-q-is : (s : tie.Start Inv-loop μ-loop) → toZ w64 (ofZ w64 (s .args .q)) ≡ s .args .q
-q-is s = toZ-ofZ (s .fits .q)
+  fit : SFits w64 a × SFits w64 b × SFits w64 (a +ℤ b)
+  fit = (
+    ok-fits a (c .before .varying-sum .ok),
+    ok-fits b (c .steady-sum .ok),
+    fits-le (R * (heaviest + heaviest)) (a +ℤ b)
+        (le-trans sum-le (omega (arith, weights-append varying steady, start .pre .0 .light, start .pre .1 .light))) refl,
+  )
 
-q-le : (s : tie.Start Inv-loop μ-loop) → natAbs (toZ w64 (ofZ w64 (s .args .q))) ≤ 1500000
-q-le s = rw (q-is s) (s .pre .moment)
+varying-sum-requires : tie.Need-varying-sum-requires
+varying-sum-requires c κs = simp (toZ-ofZ, c .fits .q) (c .pre .0)
 
-loop-holds : tie.Need-loop-holds Inv-loop μ-loop
-unfolding total
-loop-holds c = (refl, omega arith, refl)
+steady-sum-requires : tie.Need-steady-sum-requires
+steady-sum-requires c κs = search needs
 
-mul-product : tie.Need-mul-product Inv-loop μ-loop
-mul-product c = omega arith
+add-result : tie.Need-add-result
+add-result c = simp (toZ-ofZ, fit c .0, fit c .1) (fit c .2)
 
-shared-slice-copy-out-product : tie.Need-shared-slice-copy-out-product Inv-loop μ-loop
-shared-slice-copy-out-product c = omega arith
-
-product-requires : tie.Need-product-requires Inv-loop μ-loop
-product-requires c κs =
-    let l = c .before .before in
-    let s = l .before in
-    ((s .pre .sines, q-le s), small-at _ (s .args .terms .now) (l .loop .i) (s .pre .terms) (omega arith), s .pre .angles)
-
--- a turn of the loop
-module _ (c : tie.After-product Inv-loop μ-loop) where
-  abbrev loop : tie.At-loop Inv-loop μ-loop
-  loop = c .before .before .before
-
-  abbrev start : tie.Start Inv-loop μ-loop
-  start = loop .before
-
-  inside : loop .loop .i < length (start .args .terms .now)
-  inside = omega arith
-
-add-sum : tie.Need-add-sum Inv-loop μ-loop
-unfolding held
-add-sum c =
-    let l = loop c in
-    let s = start c in
-    step-fits (s .args .terms .now) (s .args .arguments .now) (toZ w64 (ofZ w64 (s .args .q))) (q-le s) (s .pre .light) (l .loop .i) (l .loop .sum) (c .product .result)
-    (inside c) (l .loop .inv .2) (ok-fits (c .product .result) (c .product .ok)) (c .product .ensures .0)
-
-add-i : tie.Need-add-i Inv-loop μ-loop
-add-i c = omega arith
-
-loop-less : tie.Need-loop-less Inv-loop μ-loop
-loop-less c = omega arith
-
-loop-again : tie.Need-loop-again Inv-loop μ-loop
-unfolding held
-loop-again c =
-    let l = loop c in
-    let s = start c in (
-      refl,
-      omega arith,
-      step-bits (s .args .terms .now) (s .args .arguments .now) (toZ w64 (ofZ w64 (s .args .q))) (q-le s) (s .pre .light) (l .loop .i) (l .loop .sum) (c .product .result)
-          (inside c) (l .loop .inv .2) (ok-fits (c .product .result) (c .product .ok)) (c .product .ensures .0),
-    )
-
-returns : tie.Need-returns Inv-loop μ-loop
-returns c =
-    let l = c .before in
-    let s = l .before in
-    let e = ended (s .args .terms .now) (s .args .arguments .now) (toZ w64 (ofZ w64 (s .args .q))) (q-le s) (s .pre .light) (l .loop .i) (l .loop .sum) (omega arith) (l .loop .inv .2) in
-    (e .0 ∙ ap (λ (q : ℤ). total Sin (s .args .arguments .now) q (termsOf (s .args .terms .now))) (q-is s), e .1)
+returns : tie.Need-returns
+returns c = simp (toZ-ofZ, fit c .0, fit c .1, fit c .2) (sum-is c, sum-le c)
 
 pub sum-spec : {M : Type 1} → statement M
-sum-spec =
-    tie.close (tie.spec Inv-loop μ-loop loop-holds mul-product shared-slice-copy-out-product product-requires add-sum add-i loop-less loop-again returns)
+sum-spec = tie.close (tie.spec varying-sum-requires steady-sum-requires add-result returns)

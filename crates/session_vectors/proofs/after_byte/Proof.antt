@@ -27,7 +27,7 @@ slice-reshare-prefix-write-all c = search needs
 slice-aggregate-write-all : tie.Need-slice-aggregate-write-all
 slice-aggregate-write-all c =
     let f = c .before .before .before in
-    sym (length-take-le (f .feed .result .end) (f .feed .last .1 .1 .1 .0) (omega (arith, f .feed .ensures .1, f .feed .kept .1 .1 .1 .0)))
+    sym (length-take-le (f .feed .result .end) (f .feed .last .1 .1 .1 .1 .0) (omega (arith, f .feed .ensures .1, f .feed .kept .1 .1 .1 .1 .0)))
 
 write-all-requires : tie.Need-write-all-requires
 write-all-requires c κs = search needs

@@ -15,7 +15,7 @@ slice-reshare-prefix-write-all c = search needs
 slice-aggregate-write-all : tie.Need-slice-aggregate-write-all
 slice-aggregate-write-all c =
     let f = c .before .before .before in
-    sym (length-take-le (f .finish .result) (f .finish .last .1 .1 .0) (omega (arith, f .finish .ensures .1, f .finish .kept .1 .1 .0)))
+    sym (length-take-le (f .finish .result) (f .finish .last .1 .1 .1 .0) (omega (arith, f .finish .ensures .1, f .finish .kept .1 .1 .1 .0)))
 
 write-all-requires : tie.Need-write-all-requires
 write-all-requires c κs = search needs

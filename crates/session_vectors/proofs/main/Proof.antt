@@ -2,17 +2,20 @@
 use native.Mathlib.Omega.{arith}
 use borrow.Author.Needs.{needs}
 use Prim.Native.Nat.{_-_, _≤_}
-use mathlib.Core.Path.{_≡_, refl, _∙_}
+use mathlib.Core.Path.{_≡_, refl}
 use lib.ListN.{length}
 use Rattle.stream.specs.Feeding.{room}
 use Rattle.session_vectors.proofs.main.Statement.{statement}
 use Rattle.session_vectors.proofs.main.Tie as tie
 
 abbrev Inv-loop : tie.InvT-loop
-Inv-loop out₀ state₀ counter₀ out state counter = (counter ≤ 1000000) × (length out ≡ room)
+Inv-loop t out₀ state₀ counter₀ out state counter = (counter ≤ 1000000) × (length out ≡ room)
 
 abbrev μ-loop : tie.MeasureT-loop
-μ-loop out₀ state₀ counter₀ out state counter = 1000000 - counter
+μ-loop t out₀ state₀ counter₀ out state counter = 1000000 - counter
+
+table-requires : tie.Need-table-requires Inv-loop μ-loop
+table-requires c κs = search needs
 
 start-requires : tie.Need-start-requires Inv-loop μ-loop
 start-requires c κs = search needs
@@ -36,7 +39,7 @@ slice-aggregate-after-byte : tie.Need-slice-aggregate-after-byte Inv-loop μ-loo
 slice-aggregate-after-byte c = search needs
 
 after-byte-requires : tie.Need-after-byte-requires Inv-loop μ-loop
-after-byte-requires c κs = search needs
+after-byte-requires c κs = (search needs, c .before .before .before .before .before .before .before .before .before .table .ensures)
 
 add-counter : tie.Need-add-counter Inv-loop μ-loop
 add-counter c = omega arith
@@ -45,7 +48,7 @@ loop-less : tie.Need-loop-less Inv-loop μ-loop
 loop-less c = omega arith
 
 loop-again : tie.Need-loop-again Inv-loop μ-loop
-loop-again c = (omega arith, omega (arith, c .before .after-byte .kept .1 .1 .0))
+loop-again c = (omega arith, omega (arith, c .before .after-byte .kept .1 .1 .1 .0))
 
 returns-2 : tie.Need-returns-2 Inv-loop μ-loop
 returns-2 c = search needs
@@ -56,6 +59,7 @@ main-spec =
     (tie.spec
     Inv-loop
     μ-loop
+    table-requires
     start-requires
     loop-holds
     read-byte-requires

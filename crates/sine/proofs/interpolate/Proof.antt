@@ -1,50 +1,49 @@
--- `sine::interpolate` meets its contract: with entries at most R nothing wraps.
-use Prim.Native.Nat.{_-_, _*_, _≤_}
-use native.Mathlib.Nat.{mul-le-mul-right}
+-- `sine::interpolate` meets its contract: what is between the entries, shared out and rounded once.
+use mathlib.Core.Path.{_≡_}
+use Prim.Native.Nat.{ℕ, _+_, _-_, _*_, _/_, _≤_}
+use native.Mathlib.Nat.{mul-le-mul}
 use native.Mathlib.Omega.{arith}
 use borrow.Author.Needs.{needs}
 use Rattle.exact.specs.Division.{nearestℕ}
 use Rattle.sine.specs.Step.{step}
-use Rattle.sine.specs.Sine.{R}
+use Rattle.sine.specs.Sine.{R, interpolated}
 use Rattle.sine.proofs.interpolate.Statement.{statement}
 use Rattle.sine.proofs.interpolate.Tie as tie
 
--- the two products, of which the sum is at most R for each unit of the step
-low-le : (c : tie.Start) → c .args .low * (step - c .args .r) ≤ R * (step - c .args .r)
-low-le c = mul-le-mul-right (step - c .args .r) (c .pre .0)
+-- d between the entries, r units on and s to go
+weighed : (low d r s : ℕ) → r + s ≡ step → low * s + (low + d) * r ≡ step * low + d * r
+weighed low d r s e = go step e
+  where
+    go : (k : ℕ) → r + s ≡ k → low * s + (low + d) * r ≡ k * low + d * r
+    go k e = rw e at ring
+      where
+        ring : low * s + (low + d) * r ≡ (r + s) * low + d * r
+        ring = omega arith
 
-high-le : (c : tie.Start) → c .args .high * c .args .r ≤ R * c .args .r
-high-le c = mul-le-mul-right (c .args .r) (c .pre .1)
+shared : (low d r : ℕ) → r ≤ step → low + (d * r + step / 2) / step ≡ interpolated low (low + d) r
+unfolding nearestℕ
+shared low d r h = let e = weighed low d r (step - r) (omega arith) in omega arith
+
+share-le : (c : tie.Start) → (c .args .high - c .args .low) * c .args .r ≤ R * step
+share-le c = mul-le-mul {n₂ = R} {m₂ = step} (omega arith) (c .pre .2)
 
 sub-result : tie.Need-sub-result
 sub-result c = search needs
 
 mul-result : tie.Need-mul-result
-mul-result c = omega (arith, low-le c)
-
-mul-result-2 : tie.Need-mul-result-2
-mul-result-2 c = omega (arith, high-le c)
+mul-result c = omega (arith, share-le c)
 
 add-result : tie.Need-add-result
-add-result c = omega (arith, low-le c, high-le c)
-
-mul-result-3 : tie.Need-mul-result-3
-mul-result-3 c = omega (arith, low-le c, high-le c)
+add-result c = omega (arith, share-le c)
 
 add-result-2 : tie.Need-add-result-2
-add-result-2 c = omega (arith, low-le c, high-le c)
-
-mul-result-4 : tie.Need-mul-result-4
-mul-result-4 c = search needs
-
-div-result : tie.Need-div-result
-div-result c = search needs
+add-result-2 c = omega (arith, share-le c)
 
 returns : tie.Need-returns
-unfolding nearestℕ
-returns c = search needs
+returns c =
+    let a = c .args in
+    let e : a .low + (a .high - a .low) ≡ a .high = omega arith in
+    rw e at (shared (a .low) (a .high - a .low) (a .r) (c .pre .2))
 
 pub interpolate-spec : {M : Type 1} → statement M
-interpolate-spec =
-    tie.close
-    (tie.spec sub-result mul-result mul-result-2 add-result mul-result-3 add-result-2 mul-result-4 div-result returns)
+interpolate-spec = tie.close (tie.spec sub-result mul-result add-result add-result-2 returns)

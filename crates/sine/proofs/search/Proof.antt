@@ -28,9 +28,6 @@ loop-holds c = record { order = search needs; within = search needs; yes = passe
 add-loop : tie.Need-add-loop Inv-loop μ-loop
 add-loop c = omega arith
 
-sub-mid : tie.Need-sub-mid Inv-loop μ-loop
-sub-mid c = omega arith
-
 add-mid : tie.Need-add-mid Inv-loop μ-loop
 add-mid c = omega arith
 
@@ -78,7 +75,6 @@ search-spec =
     μ-loop
     loop-holds
     add-loop
-    sub-mid
     add-mid
     passes-at-requires
     loop-less

@@ -1,11 +1,12 @@
 -- `sine::sin_quadrant` meets its contract.
 use mathlib.Core.Path.{_≡_, _∙_}
-use Prim.Native.Nat.{_%_}
+use Prim.Native.Nat.{_+_, _/_, _%_}
 use native.Mathlib.Omega.{arith}
 use borrow.Author.Needs.{needs}
 use borrow.Author.Tests.{lt-ltb, le-ltb}
 use Rattle.sine.specs.Step.{step}
 use Rattle.sine.specs.Sine.{interpolated, sinQuadrant}
+use Rattle.sine.proofs.Rule.{entry-climbs}
 use Rattle.sine.proofs.Monotonicity.{sin-le}
 use Rattle.sine.proofs.sin_quadrant.Statement.{statement}
 use Rattle.sine.proofs.sin_quadrant.Tie as tie
@@ -20,7 +21,10 @@ entry-at-requires-2 : tie.Need-entry-at-requires-2
 entry-at-requires-2 c κs = search needs
 
 interpolate-requires : tie.Need-interpolate-requires
-interpolate-requires c κs = search needs
+interpolate-requires c κs =
+    let a = c .before .before .before .args .a in
+    let climbs = entry-climbs (a / step) (a / step + 1) (omega arith) (omega arith) in
+    (rw (c .before .entry-at .ensures .0, c .entry-at2 .ensures .0) climbs, c .entry-at2 .ensures .1, omega arith)
 
 returns : tie.Need-returns
 unfolding sinQuadrant

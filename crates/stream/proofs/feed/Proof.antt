@@ -1,5 +1,5 @@
 -- `stream::feed` meets its contract. The invariant: what is written and what is yet to be read make what the whole chunk makes. Assumes nothing.
-use mathlib.Core.Path.{_≡_, refl, sym, ap, _∙_}
+use mathlib.Core.Path.{_≡_, refl, ap, _∙_}
 use native.Mathlib.Omega.{arith}
 use borrow.Author.Needs.{needs}
 use Prim.Native.Nat.{suc, _+_, _-_, _*_, _≤_}
@@ -15,12 +15,12 @@ use Rattle.stream.proofs.feed.Statement.{statement}
 use Rattle.stream.proofs.feed.Tie as tie
 
 abbrev Inv-loop : tie.InvT-loop
-Inv-loop protocol chunk out₀ s₀ end₀ from₀ out s end from =
+Inv-loop t protocol chunk out₀ s₀ end₀ from₀ out s end from =
     (from ≤ length chunk) × (length out ≡ length out₀) × (end ≤ from * room) × (length (held (s .kept)) ≤ keptLength)
     × (behind (take end out) (progressFrom protocol s (drop from chunk)) ≡ progressFrom protocol s₀ chunk)
 
 abbrev μ-loop : tie.MeasureT-loop
-μ-loop protocol chunk out₀ s₀ end₀ from₀ out s end from = length chunk - from
+μ-loop t protocol chunk out₀ s₀ end₀ from₀ out s end from = length chunk - from
 
 -- the array has all its bytes
 full : (c : tie.Start Inv-loop μ-loop) → length (c .args .state .kept .bytes) ≡ keptLength
@@ -61,7 +61,7 @@ find-requires : tie.Need-find-requires Inv-loop μ-loop
 find-requires c κs = search needs
 
 add-stop : tie.Need-add-stop Inv-loop μ-loop
-add-stop c = let b = bound c in omega (arith, c .before .before .before .before .before .before .good .1 .1 .0 .0)
+add-stop c = let b = bound c in omega (arith, c .before .before .before .before .before .before .good .1 .1 .1 .0 .0)
 
 sub-keep-rest : tie.Need-sub-keep-rest Inv-loop μ-loop
 sub-keep-rest c = omega arith
@@ -88,7 +88,7 @@ returns c =
     let e = found f in (
       the-rest (s .args .protocol) (s .args .state) (a .loop .s) l (drop (a .loop .from) l) (take (a .loop .end) (a .loop .out)) (a .loop .inv .4) (c .keep-rest .result)
           (omega (arith, c .before .before .if1 .taken)) (c .keep-rest .ensures .0) (rw (tail-part (a .loop .from) l) at (c .keep-rest .ensures .1)),
-      omega (arith, s .pre),
+      omega (arith, s .pre .0),
     )
 
 sub-end-line : tie.Need-sub-end-line Inv-loop μ-loop
@@ -101,10 +101,11 @@ part-end-line-end : tie.Need-part-end-line-end Inv-loop μ-loop
 part-end-line-end c = search needs
 
 end-line-requires : tie.Need-end-line-requires Inv-loop μ-loop
-end-line-requires c κs = let s = c .before .before .before .before .before .before .before .before .before in omega (arith, s .pre, c .before .before .before .before .before .before .loop .inv .2)
+end-line-requires c κs = let s = c .before .before .before .before .before .before .before .before .before in
+    (omega (arith, s .pre .0, c .before .before .before .before .before .before .loop .inv .2), s .pre .1)
 
 add-from : tie.Need-add-from Inv-loop μ-loop
-add-from c = let b = bound (c .before .before .before .before .before .before .before) in omega (arith, c .before .before .before .before .before .before .before .before .before .before .before .before .before .good .1 .1 .0 .0, c .before .before .before .before .before .before .if1 .left)
+add-from c = let b = bound (c .before .before .before .before .before .before .before) in omega (arith, c .before .before .before .before .before .before .before .before .before .before .before .before .before .good .1 .1 .1 .0 .0, c .before .before .before .before .before .before .if1 .left)
 
 loop-less : tie.Need-loop-less Inv-loop μ-loop
 loop-less c = let b = bound (c .before .before .before .before .before .before .before) in omega (arith, c .before .before .before .before .before .before .if1 .left)
@@ -128,7 +129,7 @@ loop-again c =
     let w = rw piece at (o .holds) in
     let h = r .ensures .1 .0 in (
       omega (arith, c .before .before .before .before .before .before .if1 .left),
-      r .kept .1 .1 .1 .0 ∙ a .loop .inv .1,
+      r .kept .1 .1 .1 .1 .0 ∙ a .loop .inv .1,
       omega (arith, r .ensures .1 .1 .1),
       rw h (omega arith),
       rw (from, ← (drop-drop (suc (indexOf 10 (drop n l))) n l))
@@ -145,7 +146,7 @@ returns-2 c =
     let l = s .args .chunk .now in (
       no-rest (s .args .protocol) (s .args .state) (a .loop .s) l (drop (a .loop .from) l) (take (a .loop .end) (a .loop .out)) (a .loop .inv .4)
           (drop-of-length-le l {i = a .loop .from} (c .loop-test .left)) (a .loop .inv .3),
-      omega (arith, s .pre),
+      omega (arith, s .pre .0),
     )
 
 pub feed-spec : {M : Type 1} → statement M

@@ -11,24 +11,24 @@ use Rattle.stream.proofs.feed_input.Statement.{statement}
 use Rattle.stream.proofs.feed_input.Tie as tie
 
 abbrev Inv-loop : tie.InvT-loop
-Inv-loop protocol out₀ input₀ state₀ turns₀ out input state turns = (length out ≡ length out₀) × (length input ≡ chunkLength) × Reached protocol state
+Inv-loop t protocol out₀ input₀ state₀ turns₀ out input state turns = (length out ≡ length out₀) × (length input ≡ chunkLength) × Reached protocol state
 
 abbrev μ-loop : tie.MeasureT-loop
-μ-loop protocol out₀ input₀ state₀ turns₀ out input state turns = turns
+μ-loop t protocol out₀ input₀ state₀ turns₀ out input state turns = turns
 
 -- the buffer that is lent and the state, after a turn
 turned : (c : tie.After-feed-some Inv-loop μ-loop)
-    → (length (c .feed-some .last .1 .1 .1 .0) ≡ length (c .before .before .before .before .before .before .before .args .out .now))
-    × (length (c .feed-some .last .1 .1 .0) ≡ chunkLength)
+    → (length (c .feed-some .last .1 .1 .1 .1 .0) ≡ length (c .before .before .before .before .before .before .before .args .out .now))
+    × (length (c .feed-some .last .1 .1 .1 .0) ≡ chunkLength)
     × Reached (c .before .before .before .before .before .before .before .args .protocol) (c .feed-some .result .fed .state)
 turned c =
     let f = c .feed-some in
     let i = c .before .before .before .before .loop .inv in
-    (f .kept .1 .1 .1 .0 ∙ i .0, f .kept .1 .1 .0 ∙ i .1, one-turn _ _ _ _ _ (i .2) (f .ensures .0))
+    (f .kept .1 .1 .1 .1 .0 ∙ i .0, f .kept .1 .1 .1 .0 ∙ i .1, one-turn _ _ _ _ _ (i .2) (f .ensures .0))
 
 -- where the output ends
-bound : (c : tie.After-feed-some Inv-loop μ-loop) → c .feed-some .result .fed .end ≤ length (c .feed-some .last .1 .1 .1 .0)
-bound c = omega (arith, c .feed-some .ensures .1 .1, c .feed-some .kept .1 .1 .1 .0)
+bound : (c : tie.After-feed-some Inv-loop μ-loop) → c .feed-some .result .fed .end ≤ length (c .feed-some .last .1 .1 .1 .1 .0)
+bound c = omega (arith, c .feed-some .ensures .1 .1, c .feed-some .kept .1 .1 .1 .1 .0)
 
 start-requires : tie.Need-start-requires Inv-loop μ-loop
 start-requires c κs = search needs
@@ -40,7 +40,10 @@ slice-aggregate-feed-some : tie.Need-slice-aggregate-feed-some Inv-loop μ-loop
 slice-aggregate-feed-some c = search needs
 
 feed-some-requires : tie.Need-feed-some-requires Inv-loop μ-loop
-feed-some-requires c κs = omega (arith, c .before .before .before .before .before .before .pre, c .before .before .before .loop .inv .0, c .before .before .before .loop .inv .1)
+feed-some-requires c κs =
+    let l = c .before .before .before in
+    let s = l .before .before .before in
+    (omega (arith, s .pre .0, l .loop .inv .0, l .loop .inv .1), s .pre .1)
 
 slice-reshare-prefix-write-all : tie.Need-slice-reshare-prefix-write-all Inv-loop μ-loop
 slice-reshare-prefix-write-all c = bound (c .before .before .before .before .before)
@@ -48,7 +51,7 @@ slice-reshare-prefix-write-all c = bound (c .before .before .before .before .bef
 slice-aggregate-write-all : tie.Need-slice-aggregate-write-all Inv-loop μ-loop
 slice-aggregate-write-all c =
     let t = c .before .before .before .before .before .before in
-    sym (length-take-le (t .feed-some .result .fed .end) (t .feed-some .last .1 .1 .1 .0) (bound t))
+    sym (length-take-le (t .feed-some .result .fed .end) (t .feed-some .last .1 .1 .1 .1 .0) (bound t))
 
 write-all-requires : tie.Need-write-all-requires Inv-loop μ-loop
 write-all-requires c κs = search needs

@@ -1,5 +1,5 @@
 -- `stream::finish` meets its contract. Assumes nothing.
-use mathlib.Core.Path.{_≡_, refl, sym, ap, _∙_}
+use mathlib.Core.Path.{_≡_, ap, _∙_}
 use native.Mathlib.Omega.{arith}
 use mathlib.Core.List.{append-nil}
 use lib.ListN.{length}
@@ -45,7 +45,7 @@ returns-2 c =
     let m = ap length (k .ensures .1) in (
       r .ensures .1 .1 .0 .holds ∙ ap (reply (a .protocol) (a .state .card)) (append-nil l)
           ∙ last-line (a .protocol) (a .state .card) l (λ z. e .if1 .left (omega arith)),
-      omega (arith, s .pre, r .ensures .1 .1 .1),
+      omega (arith, s .pre .0, r .ensures .1 .1 .1),
     )
 
 pub finish-spec : {M : Type 1} → statement M

@@ -18,7 +18,7 @@ returns : tie.Need-returns
 returns c =
     let f = c .before .before in
     let i = f .before .before .before .before .feed-input in
-    (last-turn _ _ _ (i .ensures) (f .finish .ensures .0), omega (arith, f .finish .ensures .1, i .kept .1 .0))
+    (last-turn _ _ _ (i .ensures) (f .finish .ensures .0), omega (arith, f .finish .ensures .1, i .kept .1 .1 .0))
 
 pub run-with-spec : {M : Type 1} → statement M
 run-with-spec = tie.close (tie.spec feed-input-requires finish-requires same-length returns)

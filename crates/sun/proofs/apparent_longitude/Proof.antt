@@ -1,29 +1,30 @@
--- `sun::apparent_longitude` meets its contract: the two lists of numbers are the definition's terms, which antt computes, and their sum is rounded once.
+-- `sun::apparent_longitude` meets its contract: the rows stand for the printed terms in whole units, which antt computes, and both sums together are rounded once.
 use mathlib.Core.Path.{_≡_, refl, ap, ap₂, subst⁻¹, _∙_}
 use mathlib.Core.List.{List}
 use Prim.Native.Nat.{ℕ, _*_, _≤_, _<_, _^_}
 use native.Mathlib.Nat.{le-trans}
 use native.Mathlib.Omega.{arith}
 use borrow.Author.Needs.{needs}
-use lib.Dec.{lit<, lit≤}
-use lib.IntN.{ℤ, pos, natAbs, _+ℤ_, _-ℤ_}
-use lib.ListN.{getD}
-use lib.Signed.{ltZ-yes}
+use lib.Dec.{lit≤}
+use lib.IntN.{ℤ, natAbs, _+ℤ_, _-ℤ_}
 use mir.Facts.{toZ-ofZ}
 use mir.Syntax.{w64}
 use mir.Val.{SFits}
 use Rattle.exact.specs.Angle.{turn, reduced, shortWay}
 use Rattle.exact.specs.Division.{floorDiv, nearest}
 use Rattle.exact.proofs.Differences.{split, zs}
-use Rattle.exact.proofs.Division.{nearest-abs}
 use Rattle.exact.proofs.Machine.{ok-fits, fits-lt}
+use Rattle.secular.specs.Sizes.{most}
 use Rattle.sine.specs.Sine.{R, Sin}
-use Rattle.series.specs.Term.{termOf, weight}
-use Rattle.series.specs.Sum.{total, tableSum, weights, small, allSmall}
-use Rattle.series.proofs.Sums.{ready, total-append}
-use Rattle.frame.specs.Nutation.{deltaPsi}
+use Rattle.epoch.proofs.Sizes.{q-size, q-fits}
+use Rattle.arguments.specs.Table.{L, count}
+use Rattle.series.specs.Sum.{total, tableSum, weights}
+use Rattle.series.specs.Rows.{kept, steadyTerm, steadyTerms}
+use Rattle.series.specs.Sizes.{counts}
+use Rattle.series.proofs.Sizes.{steady-ready}
+use Rattle.series.proofs.Sums.{total-append}
 use Rattle.sun.specs.Series.{centre, periodic, firstSum}
-use Rattle.sun.specs.Longitude.{apparentLongitude, polynomialLongitude, promise}
+use Rattle.sun.specs.Longitude.{meanLongitude, longitudeBy, apparentLongitude, polynomialLongitude, promise}
 use Rattle.sun.proofs.LongitudeBound.{longitude-within-promise}
 use Rattle.sun.proofs.apparent_longitude.Statement.{statement}
 use Rattle.sun.proofs.apparent_longitude.Tie as tie
@@ -32,132 +33,127 @@ use Rattle.sun.proofs.apparent_longitude.Tie as tie
 two-fit : (a b : ℤ) → natAbs a ≤ R * 2 ^ 27 → natAbs b ≤ R * 2 ^ 27 → SFits w64 (a +ℤ b) × (natAbs (a +ℤ b) ≤ R * 2 ^ 28)
 two-fit a b = rw (split a, split b) (simp zs (omega arith))
 
-sums-fit : (l f n : ℤ) → natAbs l < turn → natAbs f ≤ 2 ^ 28 → natAbs n ≤ 2 ^ 20
-    → SFits w64 (l +ℤ f) × SFits w64 (l +ℤ f +ℤ n) × SFits w64 (l +ℤ f +ℤ n -ℤ pos 204960)
-sums-fit l f n = rw (split l, split f, split n) (simp zs (omega arith))
+abbrev Sums : ℤ → ℤ → ℤ → ℤ → Type 0
+Sums l f n k = SFits w64 (l +ℤ f) × SFits w64 (l +ℤ f +ℤ n) × SFits w64 (l +ℤ f +ℤ n -ℤ k) × (natAbs (l +ℤ f +ℤ n -ℤ k) ≤ 2 ^ 61)
 
-slice-aggregate-sum : tie.Need-slice-aggregate-sum
-slice-aggregate-sum c = search needs
-
-sum-requires : tie.Need-sum-requires
-unfolding weights weight termOf small allSmall
-sum-requires c κs =
-    let s = c .before in
-    ready 11 (s .pre .0 .0) (simp (toZ-ofZ, s .fits .q) (s .pre .0 .1)) (s .pre .1 .0) (s .pre .1 .1) refl (lit≤ tt)
-
-slice-aggregate-sum-2 : tie.Need-slice-aggregate-sum-2
-slice-aggregate-sum-2 c = search needs
-
-sum-requires-2 : tie.Need-sum-requires-2
-unfolding weights weight termOf small allSmall
-sum-requires-2 c κs =
-    let s = c .before .before .before in
-    ready 11 (s .pre .0 .0) (simp (toZ-ofZ, s .fits .q) (s .pre .0 .1)) (s .pre .1 .0) (s .pre .1 .1) refl (lit≤ tt)
+sums : (l f n k : ℤ) → natAbs l < turn → natAbs f ≤ 2 ^ 28 → natAbs n ≤ 2 ^ 20 → natAbs k ≤ 2 ^ 20 → Sums l f n k
+sums l f n k = rw (split l, split f, split n, split k) (simp zs (omega arith))
 
 -- ---- the two sums
-module _ (c : tie.After-sum2) where
-  abbrev one : tie.After-sum
-  one = c .before .before
+centre-sum-requires : tie.Need-centre-sum-requires
+centre-sum-requires c κs =
+    let p = c .before .pre .0 in
+    simp (toZ-ofZ, q-fits (p .2)) (p .0, p .1, q-size (p .2))
+
+slice-aggregate-steady-sum : tie.Need-slice-aggregate-steady-sum
+slice-aggregate-steady-sum c = search needs
+
+slice-aggregate-steady-sum-2 : tie.Need-slice-aggregate-steady-sum-2
+slice-aggregate-steady-sum-2 c = search needs
+
+steady-sum-requires : tie.Need-steady-sum-requires
+unfolding weights most kept steadyTerm steadyTerms counts
+steady-sum-requires c κs = let p = c .before .before .before .before .pre .0 in steady-ready count (p .0) (p .1 .reduced) (p .1 .all) tt
+
+module _ (c : tie.After-steady-sum) where
+  abbrev first : tie.After-centre-sum
+  first = c .before .before .before
 
   abbrev start : tie.Start
-  start = one .before .before
+  start = first .before .before
 
   abbrev arguments : List ℤ
   arguments = start .args .arguments .now
 
+  abbrev q : ℤ
+  q = start .args .e .q
+
   abbrev a : ℤ
-  a = one .sum .result
+  a = first .centre-sum .result
 
   abbrev b : ℤ
-  b = c .sum2 .result
+  b = c .steady-sum .result
 
-  a-is : (a ≡ total Sin arguments (start .args .q) centre) × (natAbs a ≤ R * 2 ^ 27)
-  unfolding weights weight termOf nearest floorDiv
-  a-is = (simp (toZ-ofZ, start .fits .q) at (one .sum .ensures .0), le-trans (one .sum .ensures .1) (lit≤ tt))
+  a-is : a ≡ total Sin arguments q centre
+  a-is = simp (toZ-ofZ, q-fits (start .pre .0 .2)) at (first .centre-sum .ensures .0)
 
-  b-is : (b ≡ total Sin arguments (start .args .q) periodic) × (natAbs b ≤ R * 2 ^ 27)
-  unfolding weights weight termOf nearest floorDiv
-  b-is = (simp (toZ-ofZ, start .fits .q) at (c .sum2 .ensures .0), le-trans (c .sum2 .ensures .1) (lit≤ tt))
+  b-is : (b ≡ total Sin arguments q periodic) × (natAbs b ≤ R * 2 ^ 27)
+  unfolding weights most kept steadyTerm steadyTerms nearest floorDiv
+  b-is = (c .steady-sum .ensures .0 q, le-trans (c .steady-sum .ensures .1) (lit≤ tt))
 
-  both-is : a +ℤ b ≡ total Sin arguments (start .args .q) firstSum
-  both-is = ap₂ _+ℤ_ (a-is .0) (b-is .0) ∙ total-append Sin arguments (start .args .q) centre periodic
+  both-is : a +ℤ b ≡ total Sin arguments q firstSum
+  both-is = ap₂ _+ℤ_ a-is (b-is .0) ∙ total-append Sin arguments q centre periodic
 
-  both-fits : SFits w64 (a +ℤ b) × (natAbs (a +ℤ b) ≤ R * 2 ^ 28)
-  both-fits = two-fit a b (a-is .1) (b-is .1)
+  both : SFits w64 (a +ℤ b) × (natAbs (a +ℤ b) ≤ R * 2 ^ 28)
+  both = two-fit a b (first .centre-sum .ensures .1) (b-is .1)
 
   fit : SFits w64 a × SFits w64 b
-  fit = (ok-fits a (one .sum .ok), ok-fits b (c .sum2 .ok))
+  fit = (ok-fits a (first .centre-sum .ok), ok-fits b (c .steady-sum .ok))
 
-add-sum : tie.Need-add-sum
-add-sum c = simp (toZ-ofZ, fit c .0, fit c .1) (both-fits c .0)
+add-rounded : tie.Need-add-rounded
+add-rounded c = simp (toZ-ofZ, fit c .0, fit c .1) (both c .0)
 
-nearest-div-requires : tie.Need-nearest-div-requires
-nearest-div-requires c κs = simp (toZ-ofZ, fit c .0, fit c .1, both-fits c .0) (ltZ-yes tt, omega (arith, both-fits c .1))
+rounded-requires : tie.Need-rounded-requires
+rounded-requires c κs = simp (toZ-ofZ, fit c .0, fit c .1, both c .0) (omega (arith, both c .1))
 
-shared-slice-copy-out-reduced : tie.Need-shared-slice-copy-out-reduced
-shared-slice-copy-out-reduced c = search needs
+shared-slice-copy-out-reduced-bounded : tie.Need-shared-slice-copy-out-reduced-bounded
+shared-slice-copy-out-reduced-bounded c = search needs
 
 -- ---- rounded once, and the longitude
-module _ (c : tie.After-nearest-div) where
-  abbrev sums : tie.After-sum2
-  sums = c .before
+module _ (c : tie.After-reduced-bounded-arg) where
+  abbrev found : tie.After-steady-sum
+  found = c .before .before
 
-  abbrev first : ℤ
-  first = c .nearest-div .result
+  abbrev s : tie.Start
+  s = start found
 
-  quotient : first ≡ nearest (a sums +ℤ b sums) R
-  quotient = simp (toZ-ofZ, fit sums .0, fit sums .1, both-fits sums .0) at (c .nearest-div .ensures)
+  abbrev sum : ℤ
+  sum = c .before .rounded .result
 
-  first-is : first ≡ tableSum (arguments sums) (start sums .args .q) firstSum
+  sum-is : (sum ≡ tableSum (arguments found) (q found) firstSum) × (natAbs sum ≤ 2 ^ 28)
   unfolding tableSum
-  first-is = quotient ∙ ap (λ (z : ℤ). nearest z R) (both-is sums)
-
-  first-le : natAbs first ≤ 2 ^ 28
-  first-le = subst⁻¹ (λ (z : ℤ). natAbs z ≤ 2 ^ 28) quotient (nearest-abs (a sums +ℤ b sums) R (2 ^ 28) (lit< tt) (both-fits sums .1))
-
-  first-fits : SFits w64 first
-  first-fits = ok-fits first (c .nearest-div .ok)
+  sum-is =
+      let e = simp (toZ-ofZ, fit found .0, fit found .1, both found .0) at (c .before .rounded .ensures) in
+      (e .0 ∙ ap (λ (z : ℤ). nearest z R) (both-is found), e .1 (2 ^ 28) (both found .1))
 
   abbrev mean : ℤ
-  mean = getD (arguments sums) 0 (pos 0)
+  mean = meanLongitude (arguments found)
 
-  mean-lt : natAbs mean < turn
-  mean-lt = start sums .pre .1 .0 0
+  known : SFits w64 mean × SFits w64 sum
+  known = (fits-lt turn mean (s .pre .0 .1 .reduced L) refl, ok-fits sum (c .before .rounded .ok))
 
-  mean-fits : SFits w64 mean
-  mean-fits = fits-lt turn mean mean-lt refl
+  all : Sums mean sum (s .args .nutation) (s .args .aberration)
+  all = sums mean sum (s .args .nutation) (s .args .aberration) (s .pre .0 .1 .reduced L) (sum-is .1) (s .pre .1 .1) (s .pre .2)
 
-  fits : SFits w64 (mean +ℤ first) × SFits w64 (mean +ℤ first +ℤ start sums .args .nutation) × SFits w64 (mean +ℤ first +ℤ start sums .args .nutation -ℤ pos 204960)
-  fits = sums-fit mean first (start sums .args .nutation) mean-lt first-le (start sums .pre .2 .1)
+add-reduced-bounded : tie.Need-add-reduced-bounded
+add-reduced-bounded c = simp (toZ-ofZ, known c .0, known c .1) (all c .0)
 
-add-reduced : tie.Need-add-reduced
-add-reduced c = let d = c .before in simp (toZ-ofZ, mean-fits d, first-fits d) (fits d .0)
+add-reduced-bounded-2 : tie.Need-add-reduced-bounded-2
+add-reduced-bounded-2 c = simp (toZ-ofZ, known c .0, known c .1, all c .0, s c .fits .nutation) (all c .1)
 
-add-reduced-2 : tie.Need-add-reduced-2
-add-reduced-2 c = let d = c .before in simp (toZ-ofZ, mean-fits d, first-fits d, fits d .0, start (sums d) .fits .nutation) (fits d .1)
+sub-reduced-bounded : tie.Need-sub-reduced-bounded
+sub-reduced-bounded c = simp (toZ-ofZ, known c .0, known c .1, all c .0, all c .1, s c .fits .nutation, s c .fits .aberration) (all c .2)
 
-sub-reduced : tie.Need-sub-reduced
-sub-reduced c = let d = c .before in simp (toZ-ofZ, mean-fits d, first-fits d, fits d .0, fits d .1, start (sums d) .fits .nutation) (fits d .2)
-
-reduced-requires : tie.Need-reduced-requires
-reduced-requires c κs = search needs
+reduced-bounded-requires : tie.Need-reduced-bounded-requires
+reduced-bounded-requires c κs =
+    simp (toZ-ofZ, known c .0, known c .1, all c .0, all c .1, all c .2, s c .fits .nutation, s c .fits .aberration) (all c .3)
 
 returns : tie.Need-returns
-unfolding apparentLongitude
+unfolding apparentLongitude longitudeBy
 returns c =
-    let d = c .before .before in
-    let s = start (sums d) in
-    let q = s .args .q in
-    let e = simp (toZ-ofZ, mean-fits d, first-fits d, fits d .0, fits d .1, fits d .2, s .fits .nutation) at (c .reduced .ensures .0) in
-    let is = e ∙ ap₂ (λ (f n : ℤ). reduced (mean d +ℤ f +ℤ n -ℤ pos 204960)) (first-is d) (s .pre .2 .0) in
+    let d = c .before in
+    let b = s d in
+    let k = b .args .aberration in
+    let e = simp (toZ-ofZ, known d .0, known d .1, all d .0, all d .1, all d .2, b .fits .nutation, b .fits .aberration) at (c .reduced-bounded .ensures .0) in
+    let is = e ∙ ap₂ (λ (f n : ℤ). reduced (mean d +ℤ f +ℤ n -ℤ k)) (sum-is d .0) (b .pre .1 .0) in
     record {
       value = is;
-      range = c .reduced .ensures .1;
-      near = subst⁻¹ (λ (r : ℕ). shortWay r (polynomialLongitude (arguments (sums d)) q) ≤ promise) is (longitude-within-promise (arguments (sums d)) q (s .pre .0 .1));
+      range = c .reduced-bounded .ensures .1;
+      near = subst⁻¹ (λ (r : ℕ). shortWay r (polynomialLongitude k (arguments (found d)) (q (found d))) ≤ promise) is (longitude-within-promise k (arguments (found d)) (q (found d)) (q-size (b .pre .0 .2)));
     }
 
 pub apparent-longitude-spec : {M : Type 1} → statement M
 apparent-longitude-spec =
     tie.close
-    (tie.spec slice-aggregate-sum sum-requires slice-aggregate-sum-2 sum-requires-2 add-sum nearest-div-requires shared-slice-copy-out-reduced add-reduced
-    add-reduced-2 sub-reduced reduced-requires returns)
+    (tie.spec centre-sum-requires slice-aggregate-steady-sum slice-aggregate-steady-sum-2 steady-sum-requires add-rounded rounded-requires
+    shared-slice-copy-out-reduced-bounded add-reduced-bounded add-reduced-bounded-2 sub-reduced-bounded reduced-bounded-requires returns)

@@ -1,73 +1,59 @@
--- `sun::centre_longitude` meets its contract: the numbers of the list are the definition's terms.
-use mathlib.Core.Path.{_≡_, refl, ap, _∙_}
-use mathlib.Core.List.{List}
+-- `sun::centre_longitude` meets its contract: the sum is small enough to be reduced.
+use mathlib.Core.Path.{refl, ap, _∙_}
 use Prim.Native.Nat.{_≤_, _<_, _^_}
-use native.Mathlib.Nat.{le-trans}
 use native.Mathlib.Omega.{arith}
 use borrow.Author.Needs.{needs}
-use lib.Dec.{lit≤}
-use lib.IntN.{ℤ, pos, natAbs, _+ℤ_}
-use lib.ListN.{getD}
+use lib.IntN.{ℤ, natAbs, _+ℤ_}
 use mir.Facts.{toZ-ofZ}
 use mir.Syntax.{w64}
 use mir.Val.{SFits}
 use Rattle.exact.specs.Angle.{turn, reduced}
-use Rattle.exact.specs.Division.{floorDiv, nearest}
 use Rattle.exact.proofs.Differences.{split, zs}
 use Rattle.exact.proofs.Machine.{ok-fits, fits-lt}
-use Rattle.series.specs.Term.{termOf, weight}
-use Rattle.series.specs.Sum.{tableSum, weights, small, allSmall}
-use Rattle.series.proofs.Sums.{ready}
-use Rattle.sun.specs.Series.{centre}
-use Rattle.sun.specs.Longitude.{centreLongitude}
+use Rattle.arguments.specs.Table.{L}
+use Rattle.sun.specs.Longitude.{meanLongitude, centreLongitude}
 use Rattle.sun.proofs.centre_longitude.Statement.{statement}
 use Rattle.sun.proofs.centre_longitude.Tie as tie
 
-sum-fits : (l f : ℤ) → natAbs l < turn → natAbs f ≤ 2 ^ 28 → SFits w64 (l +ℤ f)
-sum-fits l f = rw (split l, split f) (simp zs (omega arith))
+shared-slice-copy-out-reduced-bounded : tie.Need-shared-slice-copy-out-reduced-bounded
+shared-slice-copy-out-reduced-bounded c = search needs
 
-shared-slice-copy-out-reduced : tie.Need-shared-slice-copy-out-reduced
-shared-slice-copy-out-reduced c = search needs
+equation-of-centre-requires : tie.Need-equation-of-centre-requires
+equation-of-centre-requires c κs = search needs
 
-slice-aggregate-rounded-sum : tie.Need-slice-aggregate-rounded-sum
-slice-aggregate-rounded-sum c = search needs
-
-rounded-sum-requires : tie.Need-rounded-sum-requires
-unfolding weights weight termOf small allSmall
-rounded-sum-requires c κs =
-    let s = c .before .before in
-    ready 11 (s .pre .0 .0) (simp (toZ-ofZ, s .fits .q) (s .pre .0 .1)) (s .pre .1 .0) (s .pre .1 .1) refl (lit≤ tt)
-
-module _ (c : tie.After-rounded-sum) where
+module _ (c : tie.After-equation-of-centre) where
   abbrev start : tie.Start
-  start = c .before .before .before
+  start = c .before .before
 
   abbrev mean : ℤ
-  mean = getD (start .args .arguments .now) 0 (pos 0)
+  mean = meanLongitude (start .args .arguments .now)
 
-  mean-fits : SFits w64 mean
-  mean-fits = fits-lt turn mean (start .pre .1 .0 0) refl
+  abbrev centre : ℤ
+  centre = c .equation-of-centre .result
 
-  centre-is : (c .rounded-sum .result ≡ tableSum (start .args .arguments .now) (start .args .q) centre) × (natAbs (c .rounded-sum .result) ≤ 2 ^ 28)
-  unfolding weights weight termOf nearest floorDiv
-  centre-is = (simp (toZ-ofZ, start .fits .q) at (c .rounded-sum .ensures .0), le-trans (c .rounded-sum .ensures .1) (lit≤ tt))
+  fit : SFits w64 mean × SFits w64 centre
+  fit = (fits-lt turn mean (start .pre .1 .reduced L) refl, ok-fits centre (c .equation-of-centre .ok))
 
-  fits : SFits w64 (mean +ℤ c .rounded-sum .result)
-  fits = sum-fits mean (c .rounded-sum .result) (start .pre .1 .0 0) (centre-is .1)
+  sum : SFits w64 (mean +ℤ centre) × (natAbs (mean +ℤ centre) ≤ 2 ^ 61)
+  sum = go mean centre (start .pre .1 .reduced L) (c .equation-of-centre .ensures .1)
+    where
+      go : (l f : ℤ) → natAbs l < turn → natAbs f ≤ 2 ^ 27 → SFits w64 (l +ℤ f) × (natAbs (l +ℤ f) ≤ 2 ^ 61)
+      go l f = rw (split l, split f) (simp zs (omega arith))
 
-add-reduced : tie.Need-add-reduced
-add-reduced c = simp (toZ-ofZ, mean-fits c, ok-fits (c .rounded-sum .result) (c .rounded-sum .ok)) (fits c)
+add-reduced-bounded : tie.Need-add-reduced-bounded
+add-reduced-bounded c = simp (toZ-ofZ, fit c .0, fit c .1) (sum c .0)
 
-reduced-requires : tie.Need-reduced-requires
-reduced-requires c κs = search needs
+reduced-bounded-requires : tie.Need-reduced-bounded-requires
+reduced-bounded-requires c κs = simp (toZ-ofZ, fit c .0, fit c .1, sum c .0) (sum c .1)
 
 returns : tie.Need-returns
 unfolding centreLongitude
 returns c =
     let d = c .before in
-    let e = simp (toZ-ofZ, mean-fits d, ok-fits (d .rounded-sum .result) (d .rounded-sum .ok), fits d) at (c .reduced .ensures .0) in
-    (e ∙ ap (λ (z : ℤ). reduced (mean d +ℤ z)) (centre-is d .0), c .reduced .ensures .1)
+    let e = simp (toZ-ofZ, fit d .0, fit d .1, sum d .0) at (c .reduced-bounded .ensures .0) in
+    (e ∙ ap (λ (z : ℤ). reduced (mean d +ℤ z)) (d .equation-of-centre .ensures .0), c .reduced-bounded .ensures .1)
 
 pub centre-longitude-spec : {M : Type 1} → statement M
 centre-longitude-spec =
-    tie.close (tie.spec shared-slice-copy-out-reduced slice-aggregate-rounded-sum rounded-sum-requires add-reduced reduced-requires returns)
+    tie.close
+    (tie.spec shared-slice-copy-out-reduced-bounded equation-of-centre-requires add-reduced-bounded reduced-bounded-requires returns)

@@ -1,10 +1,6 @@
--- `time_vectors::answer_instant` is safe: N and q of an accepted instant are of the size that the arguments ask.
-use mathlib.Core.Path.{refl, subst}
-use Prim.Native.Nat.{_^_}
-use mir.Facts.{toZ-ofZ}
+-- `time_vectors::answer_instant` is safe: the epochs of an accepted instant are of the size that the arguments ask.
+use mathlib.Core.Path.{subst}
 use Rattle.calendar.specs.Time.{InRange}
-use Rattle.exact.proofs.Machine.{fits-lt}
-use Rattle.arguments.proofs.Moments.{moment}
 use borrow.Author.Needs.{needs}
 use Rattle.time_vectors.proofs.answer_instant.Statement.{statement}
 use Rattle.time_vectors.proofs.answer_instant.Tie as tie
@@ -33,8 +29,8 @@ array-copy-out-t28 c = search needs
 instant-of-requires : tie.Need-instant-of-requires
 instant-of-requires c κs = search needs
 
-enum-known-n : tie.Need-enum-known-n
-enum-known-n c = search needs
+enum-known-epochs : tie.Need-enum-known-epochs
+enum-known-epochs c = search needs
 
 write-number-requires : tie.Need-write-number-requires
 write-number-requires c κs = search needs
@@ -47,10 +43,8 @@ write-numbers-requires c κs = search needs
 
 arguments-requires : tie.Need-arguments-requires
 arguments-requires c κs =
-    let a = c .before .before .before .before .before in
-    let r = subst InRange (a .n .given .1) (a .before .before .instant-of .ensures .1) in
-    let m = moment (a .n .given .0 .0) (a .n .given .0 .1 .0) (r .0) (r .1) in
-    simp (toZ-ofZ, fits-lt (2 ^ 45) (a .n .given .0 .0) (m .instant) refl, fits-lt (2 ^ 21) (a .n .given .0 .1 .0) (m .millionths) refl) m
+    let a = c .before .before .before .before .before .before .before in
+    subst InRange (a .epochs .given .1) (a .before .before .instant-of .ensures .1) .1
 
 slice-aggregate-write-numbers-2 : tie.Need-slice-aggregate-write-numbers-2
 slice-aggregate-write-numbers-2 c = search needs
@@ -85,7 +79,7 @@ answer-instant-spec =
     array-copy-out-t25
     array-copy-out-t28
     instant-of-requires
-    enum-known-n
+    enum-known-epochs
     write-number-requires
     slice-aggregate-write-numbers
     write-numbers-requires

@@ -1,5 +1,6 @@
 -- `card_vectors::output::fields` is safe and ends. Assumes nothing.
 use Prim.Native.Nat.{_-_}
+use Rattle.card.specs.Fields.{fieldCount}
 use borrow.Author.Needs.{needs}
 use Rattle.card_vectors.proofs.output.fields.Statement.{statement}
 use Rattle.card_vectors.proofs.output.fields.Tie as tie
@@ -8,7 +9,7 @@ abbrev Inv-loop : tie.InvT-loop
 Inv-loop card i₀ i = Unit {0}
 
 abbrev μ-loop : tie.MeasureT-loop
-μ-loop card i₀ i = 10 - i
+μ-loop card i₀ i = fieldCount - i
 
 loop-holds : tie.Need-loop-holds Inv-loop μ-loop
 loop-holds c = search needs

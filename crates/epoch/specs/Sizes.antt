@@ -1,0 +1,15 @@
+-- How large the numbers of an epoch are, so that no step of the theory leaves 64 bits.
+-- Assumes nothing.
+use mathlib.Core.Path.{_≡_}
+use lib.IntN.{ℤ, pos}
+use lib.Signed.{_≤ℤ_}
+use Rattle.epoch.specs.Epoch.{millionths}
+use Rattle.epoch.specs.declared.Epoch.{Epoch}
+
+-- N of an accepted instant: from 1976-01-01 with DUT1 −900 to the leap second of 2049-12-31 with DUT1 900
+abbrev pub Span : ℤ → Type 0
+Span n = (pos 2398334399100 ≤ℤ n) × (n ≤ℤ pos 4733640001899)
+
+pub record InSpan (e : Epoch) : Type 0 where
+  pub span : Span (e .n)
+  pub millionths : e .q ≡ millionths (e .n)
