@@ -1,0 +1,48 @@
+# Instructions a shot, by the difference of two profiles of one program, the second with `shots` shots more than the first, so that
+# start-up does not count. Prints five numbers: the whole program's; those of the function `shot` with all that it calls; and of
+# these the angles', the sums' and the arguments'. `-` stands for what is not found.
+#
+# usage: awk -v shots=N -v shot=SYMBOL -v lists=N -v rows=N -f parts.awk FEW MANY
+#        lists: how many series a shot sums; rows: how many arguments it has
+#
+# How each is found, and when not:
+#   angles      calls of sine::angle, three a shot. Another number of calls means that the compiler inlined some: not found
+#   sums        calls of the sums of `series` from outside that crate, one for each list, else not found. What is inlined into a sum
+#               counts with it, the sines above all
+#   arguments   their loop is inlined into `shot`: the instructions of that function which run exactly once for each row. Not found
+#               where the loop is unrolled or stands in a function of its own; too many where another loop of `shot` runs as often;
+#               what stands before the loop or runs for some rows only is left out
+
+function enter(part, number, cost) {
+    calls[part] += number
+    costs[part] += cost
+}
+
+function found(part, number) {
+    return calls[part] == number * shots ? sprintf("%.0f", costs[part] / shots) : "-"
+}
+
+FNR == 1 { sign = NR == 1 ? -1 : 1 }
+/^summary:/ { all += sign * $2 }
+/^fn=/ { caller = substr($0, 4) }
+/^cfn=/ { callee = substr($0, 5) }
+
+# calls=NUMBER ..., and on the next line the cost of these calls with all below them.
+/^calls=/ {
+    number = sign * substr($1, 7)
+    getline
+    cost = sign * $3
+    if (callee == shot) enter("shot", number, cost)
+    if (callee == "sine::angle") enter("angles", number, cost)
+    if (callee ~ /^series::.*sum$/ && caller !~ /^series::/) enter("sums", number, cost)
+    next
+}
+
+# ADDRESS LINE COST: an instruction costs one each time it runs.
+/^0x/ && caller == shot { runs[$1] += sign * $3 }
+
+END {
+    for (address in runs)
+        if (runs[address] == rows * shots) loop += runs[address]
+    printf "%.0f %s %s %s %s\n", all / shots, found("shot", 1), found("angles", 3), found("sums", lists), loop ? loop / shots : "-"
+}
