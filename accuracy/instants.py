@@ -3,7 +3,7 @@
 longitude 0, the Sun between 9h and 15h and Polaris at any hour, with DUT1 0."""
 import datetime
 
-LATITUDE = 50 * 36000
+LATITUDE = 50 * 36_000
 day = datetime.date(1976, 1, 1)
 number = 0
 while day.year <= 2049:

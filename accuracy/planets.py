@@ -53,7 +53,7 @@ def main():
             days.append((datetime.date(n[0], n[1], n[2]) - datetime.date(2000, 1, 1)).days + (n[3] - 12) / 24)
             d = int(book.split()[7]) - int(erfa.split()[4])
             differences.append(((d + TURN // 2) % TURN - TURN // 2) / 10_000)
-    rows = [[1, day / 36525] + [f(angle(p, day)) for p in PERIODS.values() for f in (math.sin, math.cos)] for day in days]
+    rows = [[1, day / 36_525] + [f(angle(p, day)) for p in PERIODS.values() for f in (math.sin, math.cos)] for day in days]
     fitted = solve(rows, differences)
     left = [d - sum(a * b for a, b in zip(fitted, row)) for d, row in zip(differences, rows)]
     for i, name in enumerate(PERIODS):

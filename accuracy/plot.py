@@ -61,6 +61,8 @@ def panel(title, points, top):
 def main():
     shots = [[int(w) for w in line.split()] for line in open(sys.argv[1])]
     book, erfa, at_ut = read_book(sys.argv[2]), read_erfa(sys.argv[3]), read_erfa(sys.argv[4])
+    if not len(shots) == len(book) == len(erfa) == len(at_ut):
+        sys.exit('not every shot has its answers')
     drawn = [("Sun's apparent longitude", 1, 3), ("Sun's azimuth", 1, 0), ("Azimuth of Polaris", 2, 0)]
     print(f'{"seconds of arc":28}{"book - ERFA":>16}{"theory alone":>16}{"UT for ET alone":>18}')
     out = []

@@ -7,7 +7,7 @@
 #include <math.h>
 
 /* Units of 0.0001 second of arc in a radian. */
-static const double UNITS = 648000.0 * 10000.0 / ERFA_DPI;
+static const double UNITS = 648e3 * 1e4 / ERFA_DPI;
 
 /* An instant on three scales, each in two parts. */
 struct instant {

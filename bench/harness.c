@@ -1,5 +1,5 @@
-/* Times bench_shot on the shots that `reference bench-shots` prints, read from standard
-   input, and prints what `reference bench` prints.
+/* Times bench_shot on the shots that `second bench-shots` prints, read from standard
+   input, and prints what `second bench` prints.
 
    usage: PROGRAM COUNT [sun|polaris]    nanoseconds per shot
           PROGRAM answers                each shot's refusal and four angles */

@@ -6,7 +6,7 @@
 #include <math.h>
 
 /* Units of 0.0001 second of arc in a degree. */
-static const double UNITS = 36000000.0;
+static const double UNITS = 36e6;
 
 /* An angle in degrees as units of 0 .. a turn. */
 static int64_t units(double degrees)
@@ -19,7 +19,7 @@ static int64_t units(double degrees)
 static struct ln_equ_posn place(int64_t body, double jd)
 {
     struct ln_equ_posn star = {37.95456067, 89.26410897};
-    struct ln_equ_posn motion = {44.48 / 3600000.0 / 0.012843, -11.85 / 3600000.0};
+    struct ln_equ_posn motion = {44.48 / 3.6e6 / 0.012843, -11.85 / 3.6e6};
     struct ln_equ_posn apparent;
     if (body == 1)
         ln_get_solar_equ_coords(jd, &apparent);
@@ -32,7 +32,7 @@ int64_t bench_shot(const int64_t fields[10], int64_t angles[4])
 {
     struct ln_date date = {(int)fields[0], (int)fields[1], (int)fields[2], (int)fields[3],
                            (int)fields[4], (double)(fields[5] + fields[6]) / 1000.0};
-    struct ln_lnlat_posn observer = {(double)fields[8] / 36000.0, (double)fields[7] / 36000.0};
+    struct ln_lnlat_posn observer = {(double)fields[8] / 36e3, (double)fields[7] / 36e3};
     double jd = ln_get_julian_day(&date);
     struct ln_equ_posn apparent = place(fields[9], jd);
     double sidereal = ln_get_apparent_sidereal_time(jd);

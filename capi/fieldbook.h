@@ -16,21 +16,21 @@ enum fieldbook_refusal {
     FIELDBOOK_NO_DATE = 2,       /* no such date, or not in 1976 to 2049 */
     FIELDBOOK_NO_TIME = 3,       /* hour, minute or millisecond not allowed */
     FIELDBOOK_NO_DUT1 = 4,       /* DUT1 out of range */
-    FIELDBOOK_NO_PLACE = 5,      /* latitude or longitude out of range */
+    FIELDBOOK_NO_POSITION = 5,   /* latitude or longitude out of range */
     FIELDBOOK_NO_BODY = 6,       /* body neither 1 nor 2 */
     FIELDBOOK_BELOW_HORIZON = 7, /* the body is below the horizon */
     FIELDBOOK_NEAR_ZENITH = 8    /* the body is too near the zenith for an azimuth */
 };
 
-/* A shot's answer. CHECK THE REFUSAL FIRST: A REFUSED SHOT HAS NO ANGLES. Its four angles are 0,
-   and 0 is also the azimuth of true north. Each angle is in units of 0.0001 second of arc, 0 to
-   12,959,999,999. */
-struct fieldbook_answer {
-    uint64_t refusal;    /* an enum fieldbook_refusal, 0 where the shot is answered */
-    uint64_t azimuth;    /* from north, clockwise */
-    uint64_t zenith;     /* from the zenith, without refraction */
-    uint64_t hour_angle; /* from the meridian, westward */
-    uint64_t longitude;  /* the Sun's apparent longitude s; 0 for Polaris */
+/* A shot's answer, its angles in units of 0.0001 second of arc, 0 to 12,959,999,999. Check the
+   refusal first: a refused shot has no angles, and what stands for them is 0. No answered shot has
+   the azimuth 0: due north is 1. */
+struct fieldbook_shot_answer {
+    uint64_t refusal;         /* an enum fieldbook_refusal, 0 where the shot is answered */
+    uint64_t azimuth;         /* from north, clockwise */
+    uint64_t zenith_distance; /* from the zenith, without refraction */
+    uint64_t hour_angle;      /* from the meridian, westward */
+    uint64_t longitude;       /* the Sun's apparent longitude s; 0 for Polaris */
 };
 
 enum fieldbook_body { FIELDBOOK_SUN = 1, FIELDBOOK_POLARIS = 2 };
@@ -45,14 +45,14 @@ enum fieldbook_body { FIELDBOOK_SUN = 1, FIELDBOOK_POLARIS = 2 };
    longitude           in 0.1 seconds of arc, east positive, -6,479,999 to 6,480,000
    body                an enum fieldbook_body
 
-       struct fieldbook_answer a =
+       struct fieldbook_shot_answer a =
            fieldbook_shot(1984, 7, 2, 14, 30, 0, 0, 1224000, -4230000, FIELDBOOK_SUN);
        if (a.refusal != FIELDBOOK_ANSWERED)
            return a.refusal;
        set_out(a.azimuth); */
-struct fieldbook_answer fieldbook_shot(int64_t year, int64_t month, int64_t day, int64_t hour,
-                                       int64_t minute, int64_t millisecond, int64_t dut1,
-                                       int64_t latitude, int64_t longitude, int64_t body);
+struct fieldbook_shot_answer fieldbook_shot(int64_t year, int64_t month, int64_t day, int64_t hour,
+                                            int64_t minute, int64_t millisecond, int64_t dut1,
+                                            int64_t latitude, int64_t longitude, int64_t body);
 
 #ifdef __cplusplus
 }

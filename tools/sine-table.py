@@ -1,6 +1,6 @@
 #!/usr/bin/env python3
-"""sine-table.py [STEP]: writes crates/sine/src/entries.rt from document 01's rule, exactly: entry n is the nearest whole number to R·P(STEP·n).
-The prover tests the file against the same rule, so nothing rests on this script. The step and the promise stand in crates/sine/specs/Step.antt."""
+"""sine-table.py [STEP]: writes crates/sine/src/entries.rt by document 01's rule, in exact fractions: R·P at each multiple of the step, rounded.
+The prover tests the file against the same rule, so nothing rests on this script. The step and the tolerance stand in crates/sine/specs/Step.antt."""
 import os
 import sys
 from math import factorial
@@ -16,11 +16,11 @@ def numerator(a):
 
 step = int(sys.argv[1]) if len(sys.argv) > 1 else 3_000_000
 table = [(2 * R * numerator(step * n) + DEN) // (2 * DEN) for n in range(Q // step + 1)]
-rows = "".join("    " + "%d,\n" % x for x in table)
+rows = "".join("    " + f"{x:_},\n" for x in table)
 path = os.path.join(os.path.dirname(os.path.abspath(__file__)), "..", "crates", "sine", "src", "entries.rt")
 with open(path, "w") as out:
     out.write(
-        """// The table of document 01, "The sine": entry n is the nearest whole number to R·P(STEP·n). Written by tools/sine-table.py.
+        """// The table of document 01, "The sine": R·P at every STEP from 0 to a quadrant, to nearest. Written by tools/sine-table.py.
 ghost use mathlib.Core.Path.{_≡_};
 ghost use Rattle.sine.specs.Sine.{entries};
 
@@ -28,7 +28,7 @@ ghost use Rattle.sine.specs.Sine.{entries};
 pub const STEP: u64 = %s;
 
 // A sine for each step of a quadrant.
-pub type SineTable = [u32; %d];
+pub type SineTable = [u32; %s];
 
 const ENTRIES: SineTable = [
 %s];
@@ -40,5 +40,5 @@ pub fn table() -> SineTable
     ENTRIES
 }
 """
-        % (f"{step:_}", len(table), rows)
+        % (f"{step:_}", f"{len(table):_}", rows)
     )

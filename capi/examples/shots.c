@@ -18,13 +18,13 @@ int main(void)
 {
     int64_t n[10];
     while (read_shot(n)) {
-        struct fieldbook_answer a =
+        struct fieldbook_shot_answer a =
             fieldbook_shot(n[0], n[1], n[2], n[3], n[4], n[5], n[6], n[7], n[8], n[9]);
         if (a.refusal != FIELDBOOK_ANSWERED)
             printf("no %" PRIu64 "\n", a.refusal);
         else
             printf("az %" PRIu64 " zd %" PRIu64 " ha %" PRIu64 " s %" PRIu64 "\n", a.azimuth,
-                   a.zenith, a.hour_angle, a.longitude);
+                   a.zenith_distance, a.hour_angle, a.longitude);
     }
     return 0;
 }

@@ -12,7 +12,7 @@ fn main() -> Result<(), Box<dyn Error>> {
         match shot(&Numbers::from(fields)) {
             Ok(a) => println!(
                 "az {} zd {} ha {} s {}",
-                a.azimuth, a.zenith_angle, a.hour_angle, a.longitude
+                a.azimuth, a.zenith_distance, a.hour_angle, a.longitude
             ),
             Err(refusal) => println!("no {}", refusal as u64),
         }

@@ -1,7 +1,7 @@
 //! The proved field book for Rust: a safe wrapper of the static library's functions. The units
 //! are those of `capi/fieldbook.h`.
 
-mod door;
+mod ffi;
 
 /// The ten numbers of a shot; any numbers may be given.
 #[derive(Clone, Copy, Debug, PartialEq, Eq)]
@@ -25,11 +25,11 @@ pub struct Numbers {
 
 /// An answered shot, in units of 0.0001 second of arc.
 #[derive(Clone, Copy, Debug, PartialEq, Eq)]
-pub struct Angles {
+pub struct ShotAngles {
     /// From north, clockwise.
     pub azimuth: u64,
     /// From the zenith, without refraction.
-    pub zenith_angle: u64,
+    pub zenith_distance: u64,
     /// From the meridian, westward.
     pub hour_angle: u64,
     /// The Sun's apparent longitude s; 0 for Polaris.
@@ -42,7 +42,7 @@ pub enum Refusal {
     NoDate = 2,
     NoTime = 3,
     NoDut1 = 4,
-    NoPlace = 5,
+    NoPosition = 5,
     NoBody = 6,
     BelowHorizon = 7,
     NearZenith = 8,
@@ -76,22 +76,22 @@ impl Numbers {
 }
 
 /// The shot: its angles, or why there are none.
-pub fn shot(numbers: &Numbers) -> Result<Angles, Refusal> {
-    let answer = door::shot(numbers.fields());
+pub fn shot(numbers: &Numbers) -> Result<ShotAngles, Refusal> {
+    let answer = ffi::shot(numbers.fields());
     match answer.refusal {
-        0 => Ok(Angles {
+        0 => Ok(ShotAngles {
             azimuth: answer.azimuth,
-            zenith_angle: answer.zenith,
+            zenith_distance: answer.zenith_distance,
             hour_angle: answer.hour_angle,
             longitude: answer.longitude,
         }),
         2 => Err(Refusal::NoDate),
         3 => Err(Refusal::NoTime),
         4 => Err(Refusal::NoDut1),
-        5 => Err(Refusal::NoPlace),
+        5 => Err(Refusal::NoPosition),
         6 => Err(Refusal::NoBody),
         7 => Err(Refusal::BelowHorizon),
         8 => Err(Refusal::NearZenith),
-        number => unreachable!("a plain shot is never refused by {number}"),
+        number => unreachable!("a shot with ten numbers is never refused by {number}"),
     }
 }

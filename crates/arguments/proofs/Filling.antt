@@ -1,5 +1,4 @@
--- A table of angles filled place by place: what is left of the rows, stored behind place i, gives the whole.
--- Assumes nothing.
+-- A list of angles filled one by one: those of the rows from i on, stored from i on, make it whole.
 use mathlib.Core.Path.{_≡_, sym, ap, _∙_}
 use mathlib.Core.List.{List, [], _++_, append-nil}
 use Prim.Native.Nat.{ℕ, _+_, _≤_, _<_}
@@ -17,7 +16,7 @@ whole a b h =
     sets-eq b a 0 (omega arith) ∙ ap (λ (l : List ℤ). b ++ l) (drop-of-length-le a {i = 0 + length b} (omega arith)) ∙ append-nil b
 
 module _ (rows : List (List ℤ)) (e : Epoch) where
-  -- the angles a with those of the rows from i on stored in their places are all the angles
+  -- the list a with the angles of the rows from i on stored from i on has all the angles
   abbrev pub Filled : List ℤ → ℕ → Type 0
   Filled a i = sets a i (argumentsBy (drop i rows) e) ≡ argumentsBy rows e
 

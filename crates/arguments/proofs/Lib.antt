@@ -1,3 +1,3 @@
 pub mod Sizes
-pub mod Angles
+pub mod AllReduced
 pub mod Filling

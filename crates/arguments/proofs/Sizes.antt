@@ -1,32 +1,24 @@
--- What the test of a row's size says.
--- Assumes nothing.
-use mathlib.Core.Path.{_≡_, sym, subst}
-use mathlib.Core.Bool.{true, _&&_}
-use mathlib.Core.List.{List, [], _∷_}
-use Prim.Native.Nat.{ℕ, zero, suc, _*_, _≤_, _<_, _^_}
-use native.Mathlib.Nat.{le-of-suc-le-suc, not-suc-le-zero}
+-- The sizes of the rows of a table, from one test that antt computes: `rows-sized rows tt`.
+use mathlib.Core.Bool.{Bool, _&&_}
+use mathlib.Core.List.{List, []}
+use Prim.Native.Nat.{_*_, _^_}
 use lib.Dec.{T, leb, ltb, leb→le, ltb→lt}
 use lib.IntN.{ℤ, natAbs}
 use lib.ListN.{length, getD}
-use Rattle.exact.proofs.Machine.{and-true}
-use Rattle.arguments.specs.Argument.{at}
-use Rattle.arguments.specs.Sizes.{sized, allSized}
+use Rattle.exact.specs.Nth.{nth}
+use Rattle.exact.proofs.AllBelow.{and-l, and-r, allBelow, below-all}
+use Rattle.arguments.specs.Sizes.{RowSized, RowsSized}
 
-pub record Sized (row : List ℤ) : Type 0 where
-  pub c0 : natAbs (at row 0) ≤ 2 ^ 40
-  pub c1 : natAbs (at row 1) < 2 ^ 45
-  pub c2 : natAbs (at row 2) ≤ 2 * 10 ^ 6
+abbrev rowSized : List ℤ → Bool
+rowSized row = leb (natAbs (nth row 0)) (2 ^ 40) && (ltb (natAbs (nth row 1)) (2 ^ 45) && leb (natAbs (nth row 2)) (2 * 10 ^ 6))
 
-pub is-sized : (row : List ℤ) → sized row ≡ true → Sized row
-unfolding sized
-is-sized row e =
-    let b = leb (natAbs (at row 2)) (2 * 10 ^ 6) in
-    let p = and-true (leb (natAbs (at row 0)) (2 ^ 40)) (ltb (natAbs (at row 1)) (2 ^ 45) && b) e in
-    let r = and-true (ltb (natAbs (at row 1)) (2 ^ 45)) b (p .1) in
-    record { c0 = leb→le _ _ (subst T (sym (p .0)) tt); c1 = ltb→lt _ _ (subst T (sym (r .0)) tt); c2 = leb→le _ _ (subst T (sym (r .1)) tt) }
+row-sized : (row : List ℤ) → T (rowSized row) → RowSized row
+row-sized row t =
+    let a = leb (natAbs (nth row 0)) (2 ^ 40) in
+    let b = ltb (natAbs (nth row 1)) (2 ^ 45) in
+    let c = leb (natAbs (nth row 2)) (2 * 10 ^ 6) in
+    let r = and-r a (b && c) t in
+    record { c0 = leb→le _ _ (and-l a (b && c) t); c1 = ltb→lt _ _ (and-l b c r); c2 = leb→le _ _ (and-r b c r) }
 
-pub sized-at : (rows : List (List ℤ)) (i : ℕ) → allSized rows ≡ true → i < length rows → sized (getD rows i []) ≡ true
-unfolding allSized
-sized-at [] i e h = absurd (not-suc-le-zero h)
-sized-at (row ∷ rows) zero e h = and-true (sized row) (allSized rows) e .0
-sized-at (row ∷ rows) (suc i) e h = sized-at rows i (and-true (sized row) (allSized rows) e .1) (le-of-suc-le-suc h)
+pub rows-sized : (rows : List (List ℤ)) → T (allBelow (λ i. rowSized (getD rows i [])) (length rows)) → RowsSized rows
+rows-sized rows t i h = row-sized (getD rows i []) (below-all (λ i. rowSized (getD rows i [])) (length rows) i t h)

@@ -1,3 +1,3 @@
 pub mod Argument
-pub mod Table
+pub mod PrintedArguments
 pub mod Sizes

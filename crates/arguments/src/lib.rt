@@ -5,29 +5,28 @@ use epoch::Epoch;
 use secular::Polynomial;
 pub use tables::COUNT;
 pub use tables::D;
+pub use tables::EPSILON0;
 pub use tables::L;
 pub use tables::LM;
 pub use tables::MM;
 pub use tables::MS;
 pub use tables::MV;
-pub use tables::OBLIQUITY;
 pub use tables::OMEGA;
 pub use tables::P1;
 pub use tables::P2;
 pub use tables::P3;
 ghost use mathlib.Core.Path.{_≡_};
-ghost use mathlib.Core.Bool.{true};
 ghost use Prim.Native.Nat.{_<_};
 ghost use lib.ListN.{length};
-ghost use Rattle.exact.specs.Angle.{turn};
+ghost use Rattle.exact.specs.Reduction.{turn};
 ghost use Rattle.epoch.specs.Sizes.{InSpan};
 ghost use Rattle.arguments.specs.Argument.{argument, argumentsBy};
-ghost use Rattle.arguments.specs.Table.{argumentsOf};
-ghost use Rattle.arguments.specs.Sizes.{sized, allSized, IsArguments};
+ghost use Rattle.arguments.specs.PrintedArguments.{argumentsOf};
+ghost use Rattle.arguments.specs.Sizes.{RowSized, RowsSized, IsArguments};
 
 // The angle of a row at an epoch.
 pub fn argument(row: [i64; 3], e: Epoch) -> u64
-    requires { ⌜ (sized row ≡ true) × InSpan e ⌝ }
+    requires { ⌜ RowSized row × InSpan e ⌝ }
     ensures { λ r. ⌜ (r ≡ argument row e) × (r < turn) ⌝ }
 {
     let rest = Polynomial {
@@ -41,7 +40,7 @@ pub fn argument(row: [i64; 3], e: Epoch) -> u64
 
 // The angles of any table of rows, one for each.
 fn fill(angles: &mut [i64], rows: &[[i64; 3]], e: Epoch)
-    requires { ⌜ (length (now angles) ≡ length (now rows)) × (allSized (now rows) ≡ true) × InSpan e ⌝ }
+    requires { ⌜ (length (now angles) ≡ length (now rows)) × RowsSized (now rows) × InSpan e ⌝ }
     ensures { λ _. ⌜ now (angles .exit) ≡ argumentsBy (now (rows .entry)) e ⌝ }
 {
     for i in 0..rows.len() {
@@ -50,7 +49,7 @@ fn fill(angles: &mut [i64], rows: &[[i64; 3]], e: Epoch)
 }
 
 // The arguments of an epoch, in the order of the table.
-pub fn arguments(e: Epoch) -> [i64; COUNT]
+pub fn arguments_of(e: Epoch) -> [i64; COUNT]
     requires { ⌜ InSpan e ⌝ }
     ensures { λ r. ⌜ (r ≡ argumentsOf e) × IsArguments r ⌝ }
 {

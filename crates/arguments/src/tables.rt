@@ -1,5 +1,5 @@
 // The coefficients of the time arguments (document 01, "Time"), in units of 0.0001 second of arc: at 1900 January 0.5, for a century, for a
-// century squared. Behind each row stand its argument and the printed degrees; the source of each is named in specs/Table.antt.
+// century squared. Behind each row stand its argument and the printed degrees; the source of each is named in specs/PrintedArguments.antt.
 
 // How many arguments there are.
 pub const COUNT: usize = 11;
@@ -12,7 +12,7 @@ pub const ROWS: [[i64; 3]; COUNT] = [
     [12_626_549_496, 16_029_616_111_812, -51_696], // D: 350.737486, 445267.114217, −0.001436
     [9_330_597_900, -69_629_112_288, 74_801], // Ω: 259.183275, −1934.142008, 0.0020778
     [9_735_629_904, 17_325_643_793_101, -40_799], // Lm: 270.434164, 481267.8831417, −0.0011333
-    [844_282_584, -468_450, -59], // mean obliquity: 23.452294, −0.0130125, −0.00000164
+    [844_282_584, -468_450, -59], // ε₀: 23.452294, −0.0130125, −0.00000164
     [8_322_840_000, 727_200_000, 0], // P1: 231.19, 20.20
     [2_060_640_000, 5_409_720_000, 0], // P2: 57.24, 150.27
     [11_361_600_000, 32_158_800_000, 0], // P3: 315.60, 893.30
@@ -40,8 +40,8 @@ pub const OMEGA: usize = 5;
 // Lm, the Moon's mean longitude.
 pub const LM: usize = 6;
 
-// The mean obliquity of the ecliptic.
-pub const OBLIQUITY: usize = 7;
+// ε₀, the mean obliquity of the ecliptic.
+pub const EPSILON0: usize = 7;
 
 // The arguments of the long period terms of 6.40″, 1.882″ and 0.202″.
 pub const P1: usize = 8;

@@ -1,3 +1,2 @@
 pub mod Count
-pub mod Answers
 pub mod AcceptedRange

@@ -1,14 +1,12 @@
--- Document 01, "The card" (fields 1, 2, 3) and "Time": Gregorian dates, and D, the days from 1899-12-31 to a date, counted year by year and month by month.
--- Assumes nothing.
-use Prim.Native.Nat.{ℕ, zero, suc, _+_, _-_, _%_, _≤_}
+-- Document 01, "The card" (fields 1, 2, 3) and "Time" (RULES.md, "Fields" and "Time"): Gregorian dates, and D, the days from 1899-12-31 to a date,
+-- counted year by year and month by month.
 use mathlib.Core.Bool.{Bool, cond, not, _&&_, _||_}
 use mathlib.Core.List.{List, [], _∷_}
+use Prim.Native.Nat.{ℕ, zero, suc, _+_, _-_, _%_}
 use lib.Dec.{eqb}
 use lib.IntN.{ℤ, pos, natAbs}
 use lib.ListN.{getD, take}
 use Rattle.exact.specs.Range.{between}
-use Rattle.calendar.specs.declared.Day.{Day}
-use Rattle.calendar.specs.declared.Day.the-variants.{Counted, NotADate}
 
 -- every fourth year is a leap year; of the hundreds only every fourth hundred
 unfoldable pub leapYear : ℕ → Bool
@@ -43,12 +41,3 @@ dayCount y m d = yearDays (y - 1900) + monthDays y m + d
 -- a date of the years accepted, 1976-01-01 to 2049-12-31
 unfoldable pub isDate : ℤ → ℤ → ℤ → Bool
 isDate y m d = between (pos 1976) y (pos 2049) && (between (pos 1) m (pos 12) && between (pos 1) d (pos (monthLength (natAbs y) (natAbs m))))
-
--- D as the code answers it
-unfoldable pub dayOf : ℤ → ℤ → ℤ → Day
-dayOf y m d = cond (isDate y m d) (Counted (dayCount (natAbs y) (natAbs m) (natAbs d))) NotADate
-
--- D of 1976-01-01 and of 2049-12-31
-abbrev pub DayInRange : Day → Type 0
-DayInRange (Counted d) = (27759 ≤ d) × (d ≤ 54787)
-DayInRange NotADate = Unit {0}

@@ -1,21 +1,17 @@
--- Document 01, "The card" (fields 4 to 7), "Time" and refusals 2, 3 and 4: the instant that seven numbers name.
--- Hours, minutes and the rest are looked at only with a date, and only where they are not negative: `natAbs` is then the number itself.
--- Assumes nothing.
-use Prim.Native.Nat.{ℕ, _+_, _*_, _≤_}
+-- Document 01, "The card" (fields 4 to 7), "Time" and refusals 2, 3 and 4 (RULES.md, "Fields", "Time" and "Refusals"): the instant that seven numbers
+-- name. Hours, minutes and the rest are looked at only with a date, and only where they are not negative: `natAbs` is then the number itself.
 use mathlib.Core.Bool.{Bool, cond, _&&_, _||_}
 use mathlib.Core.List.{List, [], _∷_}
+use Prim.Native.Nat.{ℕ, _+_, _*_}
 use lib.Dec.{eqb}
-use lib.IntN.{ℤ, pos, negsuc, natAbs, _+ℤ_, _-ℤ_}
-use Rattle.refusal.specs.Numbers.{numberOf}
+use lib.IntN.{ℤ, pos, negℤ, natAbs, _+ℤ_, _-ℤ_}
+use Rattle.refusal.specs.RefusalNumbers.{numberOf}
 use Rattle.refusal.specs.Tests.{Test, test, decided}
 use Rattle.exact.specs.Range.{between}
 use Rattle.epoch.specs.Epoch.{epoch, epochOf}
-use Rattle.epoch.specs.Sizes.{InSpan}
 use Rattle.epoch.specs.declared.Epoch.{Epoch}
 use Rattle.calendar.specs.Date.{isDate, dayCount}
 use Rattle.calendar.specs.declared.CivilTime.{CivilTime}
-use Rattle.calendar.specs.declared.Clock.{Clock}
-use Rattle.calendar.specs.declared.Clock.the-variants.{Millisecond, NotATime}
 use Rattle.calendar.specs.declared.Epochs.{Epochs}
 use Rattle.calendar.specs.declared.Instant.{Instant}
 use Rattle.calendar.specs.declared.Instant.the-variants.{Accepted, Refused}
@@ -26,7 +22,7 @@ leapSecondDay month day = (eqb month 6 && eqb day 30) || (eqb month 12 && eqb da
 
 -- the last millisecond of a minute: 59,999, and 60,999 at 23:59 on such a day
 unfoldable pub lastMillisecond : ℕ → ℕ → ℕ → ℕ → ℕ
-lastMillisecond month day hour minute = cond (eqb hour 23 && (eqb minute 59 && leapSecondDay month day)) 60999 59999
+lastMillisecond month day hour minute = cond (eqb hour 23 && (eqb minute 59 && leapSecondDay month day)) 60_999 59_999
 
 -- hour, minute and millisecond of the minute are allowed on a date
 unfoldable pub isTime : ℤ → ℤ → ℤ → ℤ → ℤ → Bool
@@ -37,18 +33,19 @@ isTime month day hour minute millisecond =
 
 -- the millisecond of the day; in a leap second it runs on past 86,400,000
 unfoldable pub dayMillisecond : ℤ → ℤ → ℤ → ℕ
-dayMillisecond hour minute millisecond = (natAbs hour * 60 + natAbs minute) * 60000 + natAbs millisecond
+dayMillisecond hour minute millisecond = (natAbs hour * 60 + natAbs minute) * 60_000 + natAbs millisecond
 
+-- field 7, in ms
 unfoldable pub isDut1 : ℤ → Bool
-isDut1 dut1 = between (negsuc 899) dut1 (pos 900)
+isDut1 dut1 = between (negℤ (pos 900)) dut1 (pos 900)
 
 -- 01's N, ms since 1900 January 0.5, of D, the millisecond of the day and DUT1
-unfoldable pub sinceNoon : ℕ → ℕ → ℤ → ℤ
-sinceNoon day ms dut1 = pos (86400000 * day) -ℤ pos 43200000 +ℤ pos ms +ℤ dut1
+unfoldable pub since1900 : ℕ → ℕ → ℤ → ℤ
+since1900 day ms dut1 = pos (86_400_000 * day) -ℤ pos 43_200_000 +ℤ pos ms +ℤ dut1
 
 unfoldable pub instant : CivilTime → ℤ
 instant t =
-    sinceNoon (dayCount (natAbs (t .year)) (natAbs (t .month)) (natAbs (t .day))) (dayMillisecond (t .hour) (t .minute) (t .millisecond)) (t .dut1)
+    since1900 (dayCount (natAbs (t .year)) (natAbs (t .month)) (natAbs (t .day))) (dayMillisecond (t .hour) (t .minute) (t .millisecond)) (t .dut1)
 
 -- one epoch for both times
 abbrev pub both : Epoch → Epochs
@@ -84,18 +81,3 @@ instantOf t = decided (instantTests t) (accepted (epochsOf (instant t))) refused
 abbrev pub instantValues : Instant → InstantValues
 instantValues (Accepted es) = accepted es
 instantValues (Refused r) = refused (numberOf r)
-
--- the millisecond of the day as the code answers it
-unfoldable pub clockOf : ℤ → ℤ → ℤ → ℤ → ℤ → Clock
-clockOf month day hour minute millisecond =
-    cond (isTime month day hour minute millisecond) (Millisecond (dayMillisecond hour minute millisecond)) NotATime
-
--- the last millisecond of a day, with a leap second
-abbrev pub ClockInRange : Clock → Type 0
-ClockInRange (Millisecond ms) = ms ≤ 86400999
-ClockInRange NotATime = Unit {0}
-
--- the epochs of an accepted instant have the size that the theory asks
-abbrev pub InRange : Instant → Type 0
-InRange (Accepted es) = InSpan (es .universal) × InSpan (es .ephemeris)
-InRange (Refused r) = Unit {0}

@@ -1,17 +1,17 @@
-// The door for products in C and Rust: the static library's functions, on plain numbers and by value. capi/fieldbook.h declares them.
-// They trust no caller, write to no memory of one, and keep nothing from one call to the next.
-ghost use mathlib.Core.Path.{_≡_};
-ghost use Rattle.fieldbook.specs.Shot.{InTurn, shotOf};
-ghost use Rattle.capi.specs.Door.{numbers, valuesIn};
+// The C interface, for products in C and Rust: the static library's functions, on plain numbers and by value, as capi/fieldbook.h declares
+// them. They trust no caller, write to no memory of one, and keep nothing from one call to the next.
 use fieldbook::Outcome;
+ghost use mathlib.Core.Path.{_≡_};
+ghost use Rattle.fieldbook.specs.Shot.{ShotReduced, shot};
+ghost use Rattle.capi.specs.Interface.{numbers, answerValues};
 
-// What a shot answers, laid out as in C: the refusal's number, 0 for none, and azimuth, zenith angle, hour angle and s, in units of
+// What a shot answers, laid out as in C: the refusal's number, 0 for none, and azimuth, zenith distance, hour angle and s, in units of
 // 0.0001 second of arc. A refusal's angles are 0.
 #[repr(C)]
-pub struct Answer {
+pub struct ShotAnswer {
     pub refusal: u64,
     pub azimuth: u64,
-    pub zenith: u64,
+    pub zenith_distance: u64,
     pub hour_angle: u64,
     pub longitude: u64,
 }
@@ -29,8 +29,8 @@ pub extern "C" fn fieldbook_shot(
     latitude: i64,
     longitude: i64,
     body: i64,
-) -> Answer
-    ensures { λ r. ⌜ (valuesIn r ≡ shotOf (numbers year month day hour minute millisecond dut1 latitude longitude body)) × InTurn (valuesIn r) ⌝ }
+) -> ShotAnswer
+    ensures { λ r. ⌜ (answerValues r ≡ shot (numbers year month day hour minute millisecond dut1 latitude longitude body)) × ShotReduced (answerValues r) ⌝ }
 {
     let fields = [
         year,
@@ -45,17 +45,17 @@ pub extern "C" fn fieldbook_shot(
         body,
     ];
     match fieldbook::shot(fieldbook::numbers_of(fields)) {
-        Outcome::Answered(a) => Answer {
+        Outcome::Answered(a) => ShotAnswer {
             refusal: 0,
             azimuth: a.azimuth,
-            zenith: a.zenith,
+            zenith_distance: a.zenith_distance,
             hour_angle: a.hour_angle,
             longitude: a.longitude,
         },
-        Outcome::Refused(refusal) => Answer {
+        Outcome::Refused(refusal) => ShotAnswer {
             refusal: refusal::number_of(refusal),
             azimuth: 0,
-            zenith: 0,
+            zenith_distance: 0,
             hour_angle: 0,
             longitude: 0,
         },

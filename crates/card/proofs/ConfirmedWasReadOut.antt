@@ -1,11 +1,11 @@
--- A CONFIRMED NUMBER WAS READ OUT. After any calls from any card, in any order and of any number: where field f stands confirmed with n, n was
--- heard for f, after that its text was written out by an accepted reading, and after that it was confirmed, with nothing heard for f since that
--- hearing. What of the three did not come among the calls stood on the card already: on a fresh card, the 0 of DUT1 alone. Assumes nothing.
-use Prim.Native.Nat.{suc}
+-- A confirmed number was read out. After any calls from any card, in any order and of any number: where field f stands confirmed with n, n was heard
+-- for f, after that its text was written out by an accepted reading, and after that it was confirmed, with nothing heard for f since that hearing.
+-- What of the three did not come among the calls stood on the card already: on a fresh card, the 0 of DUT1 alone.
 use mathlib.Core.Path.{_≡_, refl, sym, ap, subst, _∙_}
 use mathlib.Core.Bool.{Bool, true, false}
 use mathlib.Core.Logic.{_⊎_, inl, inr, ⊎-elim}
 use mathlib.Core.List.{List, [], _∷_, List·Memᴰ·not-nil, List·Memᴰ·head, List·Memᴰ·cases-cons}
+use Prim.Native.Nat.{suc}
 use lib.Dec.{eqb}
 use lib.IntN.{ℤ, pos}
 use lib.ListN.{replicate, getD-replicate}
@@ -13,136 +13,103 @@ use lib.Seq.{getD-set-other}
 use borrow.Author.Tests.{eqb-true, eqb-false}
 use Rattle.digits.specs.Text.{text}
 use Rattle.digits.specs.Writing.{over}
+use Rattle.card.specs.Fields.{fieldCount, isField, DUT1, slotIndex, slot, fieldAt, fieldOf, Full, freshCard}
+use Rattle.card.specs.Calls.{bufferAfter}
+use Rattle.card.specs.History.{Call, hear, after, refusal, afterAll, NothingHeard, AcceptedAmong, ConfirmedAmong, ReadOutAmong, HeardAmong, Story, stoodConfirmed, stoodRead, stoodHeard, wasHeard, StartingZero}
 use Rattle.card.specs.declared.Field.{Field}
 use Rattle.card.specs.declared.Field.the-variants.{Empty, Heard, Read, Confirmed}
 use Rattle.card.specs.declared.Card.{Card}
-use Rattle.card.specs.Fields.{fieldCount, isField, DUT1, placeOf, slot, fieldAt, fieldOf, Full, freshCard}
-use Rattle.card.specs.Calls.{bufferAfter}
-use Rattle.card.specs.History.{Call, hear, confirm, after, refusal, afterAll, NothingHeard, ConfirmedAmong, ReadOutAmong, HeardAmong, Story, stoodConfirmed, stoodRead, stoodHeard, wasHeard, StartingZero}
 use Rattle.card.proofs.OneCall.{Effect, heard, readOut, confirmed, kept, effect, after-length}
-use Rattle.card.proofs.FieldNumbers.{field-number, place-below, field-found, no-field}
+use Rattle.card.proofs.FieldNumbers.{field-number, index-below, field-found, no-field}
 use Rattle.card.proofs.Clash.{clash}
 
 no-calls : (f : ℤ) → NothingHeard f []
 no-calls f c n m = absurd (List·Memᴰ·not-nil m)
 
--- one call more, in front of the others
-module _ (c : Card) (f : ℤ) (x : Call) where
-  -- a call that leaves the field: what came after it still did
-  module _ (h : NothingHeard f (x ∷ [])) where
-    quiet-longer : {l : List Call} → NothingHeard f l → NothingHeard f (x ∷ l)
-    quiet-longer k d n m = ⊎-elim (λ e. h d n (List·Memᴰ·head e)) (k d n) (List·Memᴰ·cases-cons m)
-
-    confirmed-longer : {calls : List Call} → ConfirmedAmong (after c x) f calls → ConfirmedAmong c f (x ∷ calls)
-    unfolding afterAll
-    confirmed-longer r = record {
-      earlier = x ∷ r .earlier;
-      later = r .later;
-      order = ap (λ l. x ∷ l) (r .order);
-      accepts = r .accepts;
-      quiet = (quiet-longer (r .quiet .0), r .quiet .1);
-    }
-
-    read-longer : {n : ℤ} {calls : List Call} → ReadOutAmong (after c x) f n calls → ReadOutAmong c f n (x ∷ calls)
-    unfolding afterAll
-    read-longer r = record {
-      earlier = x ∷ r .earlier;
-      buffer = r .buffer;
-      place = r .place;
-      later = r .later;
-      order = ap (λ l. x ∷ l) (r .order);
-      accepts = r .accepts;
-      shown = r .shown;
-      quiet = quiet-longer (r .quiet);
-      confirmed = r .confirmed;
-    }
-
-  heard-longer : {n : ℤ} {calls : List Call} → HeardAmong (after c x) f n calls → HeardAmong c f n (x ∷ calls)
+-- one call more, in front of the others: it is the call that is looked for, or that one comes later
+module _ (c : Card) (x : Call) {calls : List Call} {y : Call} where
+  first : x ≡ y → refusal c x ≡ 0 → AcceptedAmong c y (x ∷ calls)
   unfolding afterAll
-  heard-longer r = record {
-    earlier = x ∷ r .earlier;
-    later = r .later;
-    order = ap (λ l. x ∷ l) (r .order);
-    accepts = r .accepts;
-    readOut = r .readOut;
-  }
+  first e r = record { earlier = []; later = calls; order = ap (λ y. y ∷ calls) e; accepts = subst (λ y. refusal c y ≡ 0) e r }
 
--- a call that brings the field on is the first of its kind
-confirmed-first : {c : Card} {f : ℤ} {x : Call} {calls : List Call} → x ≡ confirm f → refusal c x ≡ 0 → NothingHeard f calls
-    → ConfirmedAmong c f (x ∷ calls)
-unfolding afterAll
-confirmed-first {c} {f} {calls = calls} e r q = record {
-  earlier = [];
-  later = calls;
-  order = ap (λ y. y ∷ calls) e;
-  accepts = subst (λ y. refusal c y ≡ 0) e r;
-  quiet = (no-calls f, q);
-}
+  longer : AcceptedAmong (after c x) y calls → AcceptedAmong c y (x ∷ calls)
+  unfolding afterAll
+  longer a = record { earlier = x ∷ a .earlier; later = a .later; order = ap (λ l. x ∷ l) (a .order); accepts = a .accepts }
+
+-- a call that leaves field f: what came after it still did
+module _ (c : Card) (f : ℤ) (x : Call) (h : NothingHeard f (x ∷ [])) where
+  quiet-longer : {l : List Call} → NothingHeard f l → NothingHeard f (x ∷ l)
+  quiet-longer k d n m = ⊎-elim (λ e. h d n (List·Memᴰ·head e)) (k d n) (List·Memᴰ·cases-cons m)
+
+  confirmed-longer : {calls : List Call} → ConfirmedAmong (after c x) f calls → ConfirmedAmong c f (x ∷ calls)
+  unfolding afterAll longer
+  confirmed-longer r = record { call = longer c x (r .call); quiet = (quiet-longer (r .quiet .0), r .quiet .1) }
+
+  read-longer : {n : ℤ} {calls : List Call} → ReadOutAmong (after c x) f n calls → ReadOutAmong c f n (x ∷ calls)
+  unfolding afterAll longer
+  read-longer r = record {
+    buffer = r .buffer;
+    place = r .place;
+    call = longer c x (r .call);
+    shown = r .shown;
+    quiet = quiet-longer (r .quiet);
+    confirmed = r .confirmed;
+  }
 
 -- the effect of the first call, and the story of the others
 tell : (c : Card) (f n : ℤ) (x : Call) {calls : List Call} {v : Field} → v ≡ fieldOf (after c x) f → Effect c f x v → Story (after c x) f n calls
     → Story c f n (x ∷ calls)
-unfolding afterAll
-tell c f n x g w (wasHeard r) = wasHeard (heard-longer c f x r)
+unfolding afterAll first longer
+tell c f n x g w (wasHeard r) = wasHeard (record { call = longer c x (r .call); readOut = r .readOut })
 tell c f n x g (heard m e r t w) (stoodConfirmed k q) = clash (cc)
 tell c f n x g (heard m e r t w) (stoodRead k q) = clash (cc)
 tell c f n x {calls} g (heard m e r t w) (stoodHeard k q) =
     let y : x ≡ hear f n = (let z : m ≡ n = cc in e ∙ ap (hear f) z) in
-    wasHeard
-    (record {
-      earlier = [];
-      later = calls;
-      order = ap (λ y. y ∷ calls) y;
-      accepts = subst (λ y. refusal c y ≡ 0) y r;
-      readOut = subst (λ y. ReadOutAmong (after c y) f n calls) y q;
-    })
+    wasHeard (record { call = first c x y r; readOut = subst (λ y. ReadOutAmong (after c y) f n calls) y q })
 tell c f n x g (readOut m buffer place e r b h w) (stoodConfirmed k q) = clash (cc)
 tell c f n x {calls} g (readOut m buffer place e r b h w) (stoodRead k q) =
     let z : m ≡ n = cc in
     stoodHeard (h ∙ ap Heard z)
     (record {
-      earlier = [];
       buffer = buffer;
       place = place;
-      later = calls;
-      order = ap (λ y. y ∷ calls) e;
-      accepts = subst (λ y. refusal c y ≡ 0) e r;
+      call = first c x e r;
       shown = subst (λ k. bufferAfter c f buffer place ≡ over buffer place (text k)) z b;
       quiet = no-calls f;
       confirmed = subst (λ y. ConfirmedAmong (after c y) f calls) e q;
     })
 tell c f n x g (readOut m buffer place e r b h w) (stoodHeard k q) = clash (cc)
 tell c f n x g (confirmed m e r h w) (stoodConfirmed k q) =
-    let z : m ≡ n = cc in stoodRead (h ∙ ap Read z) (confirmed-first e r q)
+    let z : m ≡ n = cc in stoodRead (h ∙ ap Read z) (record { call = first c x e r; quiet = (no-calls f, q) })
 tell c f n x g (confirmed m e r h w) (stoodRead k q) = clash (cc)
 tell c f n x g (confirmed m e r h w) (stoodHeard k q) = clash (cc)
 tell c f n x g (kept h w) (stoodConfirmed k q) = stoodConfirmed (sym w ∙ g ∙ k) (quiet-longer c f x h q)
 tell c f n x g (kept h w) (stoodRead k q) = stoodRead (sym w ∙ g ∙ k) (confirmed-longer c f x h q)
 tell c f n x g (kept h w) (stoodHeard k q) = stoodHeard (sym w ∙ g ∙ k) (read-longer c f x h q)
 
--- FROM ANY CARD
+-- ---- from any card
 pub confirmed-was-read-out : (c : Card) (calls : List Call) (f n : ℤ) → Full c → fieldOf (afterAll c calls) f ≡ Confirmed n → Story c f n calls
 unfolding afterAll
 confirmed-was-read-out c [] f n l e = stoodConfirmed e (no-calls f)
 confirmed-was-read-out c (x ∷ calls) f n l e =
     tell c f n x refl (effect c f x l) (confirmed-was-read-out (after c x) calls f n (after-length c x ∙ l) e)
 
--- FROM A FRESH CARD, on which only DUT1 holds a number
+-- ---- from a fresh card, on which only DUT1 holds a number
 pub data OnFresh (f : ℤ) (v : Field) : Type 0 where
   empty : v ≡ Empty → OnFresh f v
   zero-dut1 : f ≡ DUT1 → v ≡ Confirmed (pos 0) → OnFresh f v
 
-fresh-at : (f : ℤ) (b : Bool) → isField f ≡ true → eqb (placeOf f) (placeOf DUT1) ≡ b → OnFresh f (fieldAt freshCard (placeOf f))
+fresh-at : (f : ℤ) (b : Bool) → isField f ≡ true → eqb (slotIndex f) (slotIndex DUT1) ≡ b → OnFresh f (fieldAt freshCard (slotIndex f))
 fresh-at f true p t =
-    let e = eqb-true (placeOf f) (placeOf DUT1) t in zero-dut1 (field-number f p ∙ ap (λ j. pos (suc j)) e) (ap (fieldAt freshCard) e)
+    let e = eqb-true (slotIndex f) (slotIndex DUT1) t in zero-dut1 (field-number f p ∙ ap (λ j. pos (suc j)) e) (ap (fieldAt freshCard) e)
 fresh-at f false p t =
     let empties = replicate fieldCount (slot Empty) in
-    let o = getD-set-other empties (placeOf DUT1) (placeOf f) (slot (Confirmed (pos 0))) (slot Empty) (eqb-false (placeOf f) (placeOf DUT1) t) in
-    empty (ap (λ s. s .field) (o ∙ getD-replicate fieldCount (placeOf f) (slot Empty) (slot Empty) (place-below f p)))
+    let o = getD-set-other empties (slotIndex DUT1) (slotIndex f) (slot (Confirmed (pos 0))) (slot Empty) (eqb-false (slotIndex f) (slotIndex DUT1) t) in
+    empty (ap (λ s. s .field) (o ∙ getD-replicate fieldCount (slotIndex f) (slot Empty) (slot Empty) (index-below f p)))
 
 pub on-fresh : (f : ℤ) (b : Bool) → isField f ≡ b → OnFresh f (fieldOf freshCard f)
 on-fresh f false e = empty (sym (no-field f e freshCard))
-on-fresh f true e = subst (OnFresh f) (field-found f e freshCard) (fresh-at f (eqb (placeOf f) (placeOf DUT1)) e refl)
+on-fresh f true e = subst (OnFresh f) (field-found f e freshCard) (fresh-at f (eqb (slotIndex f) (slotIndex DUT1)) e refl)
 
 from-fresh : (calls : List Call) (f n : ℤ) → OnFresh f (fieldOf freshCard f) → Story freshCard f n calls
     → StartingZero calls f n ⊎ HeardAmong freshCard f n calls

@@ -4,7 +4,7 @@ pub mod UnreadNeverConfirmed
 pub mod ShotNumbersWereReadOut
 pub mod HeldNumbersAreSmall
 pub mod ReadingsAreShort
-pub mod Answers
+pub mod CallAnswers
 pub mod Clash
 pub mod FieldNumbers
 pub mod Histories

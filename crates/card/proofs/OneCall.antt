@@ -1,39 +1,39 @@
--- What one call does to a field: a hearing makes it heard, a reading turns heard into read, a confirming read into confirmed, and any other
--- call leaves it. Assumes nothing.
-use Prim.Native.Nat.{ℕ, suc}
-use native.Mathlib.Omega.{arith}
+-- What one call does to a field: a hearing makes it heard, a reading makes heard read, a confirming read confirmed, and any other call
+-- leaves it.
 use mathlib.Core.Path.{_≡_, refl, sym, ap, subst, _∙_}
 use mathlib.Core.Bool.{Bool, true, false}
 use mathlib.Core.Logic.{_≢_}
 use mathlib.Core.List.{List, [], _∷_, List·Memᴰ·eq-of-singleton}
+use Prim.Native.Nat.{ℕ, suc}
+use native.Mathlib.Omega.{arith}
 use lib.IntN.{ℤ, pos, ℤ-discrete}
 use lib.ListN.{length, length-set}
 use lib.Seq.{getD-set-same, getD-set-other}
 use Rattle.digits.specs.Text.{text}
 use Rattle.digits.specs.Writing.{fits, over}
+use Rattle.card.specs.Fields.{isHeld, isRead, numberIn, isField, slotIndex, slot, fieldOf, put, Full}
+use Rattle.card.specs.Calls.{canBeHeard, readState, bufferAfter}
+use Rattle.card.specs.History.{Call, hear, read, confirm, after, refusal, NothingHeard}
 use Rattle.card.specs.declared.Field.{Field}
 use Rattle.card.specs.declared.Field.the-variants.{Empty, Heard, Read, Confirmed}
 use Rattle.card.specs.declared.Card.{Card}
-use Rattle.card.specs.Fields.{isHeld, isRead, numberIn, isField, placeOf, slot, fieldOf, put, Full}
-use Rattle.card.specs.Calls.{canBeHeard, hearing, readState, bufferAfter}
-use Rattle.card.specs.History.{Call, hear, read, confirm, after, refusal, NothingHeard}
-use Rattle.card.proofs.FieldNumbers.{field-number, place-below, field-found, no-field}
-use Rattle.card.proofs.Answers.{hearing-no-field, hearing-too-large, hearing-accepted, confirming-no-field, confirming-not-read, confirming-accepted, reading-no-field, reading-empty, reading-no-room, reading-written}
+use Rattle.card.proofs.FieldNumbers.{field-number, index-below, field-found, no-field}
+use Rattle.card.proofs.CallAnswers.{hear-no-field, hear-too-large, hear-accepted, confirm-no-field, confirm-not-read, confirm-accepted, read-no-field, read-empty, read-no-room, read-written}
 use Rattle.card.proofs.States.{is-read}
 use Rattle.card.proofs.Clash.{clash}
 
--- a field is put into one place and no other
-put-same : (c : Card) (f : ℤ) (v : Field) → Full c → isField f ≡ true → fieldOf (put c (placeOf f) v) f ≡ v
+-- a field is put at one index and no other
+put-same : (c : Card) (f : ℤ) (v : Field) → Full c → isField f ≡ true → fieldOf (put c (slotIndex f) v) f ≡ v
 put-same c f v l e =
-    let h = place-below f e in
-    sym (field-found f e (put c (placeOf f) v)) ∙ ap (λ s. s .field) (getD-set-same (c .slots) (placeOf f) (slot v) (slot Empty) (omega arith))
+    let h = index-below f e in
+    sym (field-found f e (put c (slotIndex f) v)) ∙ ap (λ s. s .field) (getD-set-same (c .slots) (slotIndex f) (slot v) (slot Empty) (omega arith))
 
-put-other : (c : Card) (f g : ℤ) (v : Field) (b : Bool) → isField f ≡ b → isField g ≡ true → f ≢ g → fieldOf (put c (placeOf g) v) f ≡ fieldOf c f
-put-other c f g v false e k n = sym (no-field f e (put c (placeOf g) v)) ∙ no-field f e c
+put-other : (c : Card) (f g : ℤ) (v : Field) (b : Bool) → isField f ≡ b → isField g ≡ true → f ≢ g → fieldOf (put c (slotIndex g) v) f ≡ fieldOf c f
+put-other c f g v false e k n = sym (no-field f e (put c (slotIndex g) v)) ∙ no-field f e c
 put-other c f g v true e k n =
-    let apart = getD-set-other (c .slots) (placeOf g) (placeOf f) (slot v) (slot Empty)
+    let apart = getD-set-other (c .slots) (slotIndex g) (slotIndex f) (slot v) (slot Empty)
     (λ q. n (field-number f e ∙ ap (λ i. pos (suc i)) q ∙ sym (field-number g k))) in
-    sym (field-found f e (put c (placeOf g) v)) ∙ ap (λ s. s .field) apart ∙ field-found f e c
+    sym (field-found f e (put c (slotIndex g) v)) ∙ ap (λ s. s .field) apart ∙ field-found f e c
 
 -- what call x makes of field f, which is v afterwards
 pub data Effect (c : Card) (f : ℤ) (x : Call) (v : Field) : Type 0 where
@@ -46,27 +46,27 @@ pub data Effect (c : Card) (f : ℤ) (x : Call) (v : Field) : Type 0 where
 -- a call on field g leaves the card, or it puts the next state there. Nothing is heard for another field
 data Step (c : Card) (g : ℤ) (x : Call) : Type 0 where
   refused : ((f : ℤ) → NothingHeard f (x ∷ [])) → after c x ≡ c → Step c g x
-  puts : (v : Field) → isField g ≡ true → ((f : ℤ) → f ≢ g → NothingHeard f (x ∷ [])) → after c x ≡ put c (placeOf g) v → Effect c g x v → Step c g x
+  puts : (v : Field) → isField g ≡ true → ((f : ℤ) → f ≢ g → NothingHeard f (x ∷ [])) → after c x ≡ put c (slotIndex g) v → Effect c g x v → Step c g x
 
 -- only a hearing for f is heard for f
 not-heard : (f : ℤ) (x : Call) → ((n : ℤ) → hear f n ≢ x) → NothingHeard f (x ∷ [])
 not-heard f x h c n m e = h n (List·Memᴰ·eq-of-singleton m)
 
 module _ (c : Card) (g : ℤ) where
-  hear-refused : (n : ℤ) → ((d : Card) → refusal d (hear g n) ≢ 0) → hearing c g n .card ≡ c → Step c g (hear g n)
+  hear-refused : (n : ℤ) → ((d : Card) → refusal d (hear g n) ≢ 0) → after c (hear g n) ≡ c → Step c g (hear g n)
   hear-refused n r e = refused (λ f d m i q. r d (ap (refusal d) (sym (List·Memᴰ·eq-of-singleton i)) ∙ q)) e
 
   hear-step : (n : ℤ) (a b : Bool) → isField g ≡ a → canBeHeard n ≡ b → Step c g (hear g n)
   hear-step n false b e t =
       hear-refused n
-      (λ d q. let z = ap (λ a. a .refusal) (hearing-no-field d g n e) ∙ q in omega arith)
-      (sym (ap (λ a. a .card) (hearing-no-field c g n e)))
+      (λ d q. let z = ap (λ a. a .refusal) (hear-no-field d g n e) ∙ q in omega arith)
+      (sym (ap (λ a. a .card) (hear-no-field c g n e)))
   hear-step n true false e t =
       hear-refused n
-      (λ d q. let z = ap (λ a. a .refusal) (hearing-too-large d g n e t) ∙ q in omega arith)
-      (sym (ap (λ a. a .card) (hearing-too-large c g n e t)))
+      (λ d q. let z = ap (λ a. a .refusal) (hear-too-large d g n e t) ∙ q in omega arith)
+      (sym (ap (λ a. a .card) (hear-too-large c g n e t)))
   hear-step n true true e t =
-      let h = hearing-accepted c g n e t in
+      let h = hear-accepted c g n e t in
       puts (Heard n) e (λ f r. not-heard f _ (λ m k. r (cc))) (sym (ap (λ a. a .card) h))
       (heard n refl (sym (ap (λ a. a .refusal) h)) t refl)
 
@@ -74,10 +74,10 @@ module _ (c : Card) (g : ℤ) where
   confirm-none f = not-heard f _ (λ n e. clash (cc))
 
   confirm-step : (a b : Bool) → isField g ≡ a → isRead (fieldOf c g) ≡ b → Step c g (confirm g)
-  confirm-step false b e k = refused confirm-none (sym (ap (λ a. a .card) (confirming-no-field c g e)))
-  confirm-step true false e k = refused confirm-none (sym (ap (λ a. a .card) (confirming-not-read c g e k)))
+  confirm-step false b e k = refused confirm-none (sym (ap (λ a. a .card) (confirm-no-field c g e)))
+  confirm-step true false e k = refused confirm-none (sym (ap (λ a. a .card) (confirm-not-read c g e k)))
   confirm-step true true e k =
-      let h = confirming-accepted c g e k in
+      let h = confirm-accepted c g e k in
       puts (Confirmed (numberIn (fieldOf c g))) e (λ f r. confirm-none f) (sym (ap (λ a. a .card) h))
       (confirmed (numberIn (fieldOf c g)) refl (sym (ap (λ a. a .refusal) h)) (is-read (fieldOf c g) k) refl)
 
@@ -85,7 +85,7 @@ module _ (c : Card) (g : ℤ) where
     read-none : (f : ℤ) → NothingHeard f (read g buffer place ∷ [])
     read-none f = not-heard f _ (λ n e. clash (cc))
 
-    -- an accepted reading turns heard into read; a field that is read again keeps its state
+    -- an accepted reading makes a heard field read; a field that is read again keeps its state
     read-effect : (s : Field) → s ≡ fieldOf c g → isHeld s ≡ true → refusal c (read g buffer place) ≡ 0
         → bufferAfter c g buffer place ≡ over buffer place (text (numberIn s)) → Effect c g (read g buffer place) (readState s)
     read-effect Empty k h r b = clash (cc)
@@ -94,12 +94,12 @@ module _ (c : Card) (g : ℤ) where
     read-effect (Confirmed n) k h r b = kept (read-none g) k
 
     read-step : (a b t : Bool) → isField g ≡ a → isHeld (fieldOf c g) ≡ b → fits buffer place (numberIn (fieldOf c g)) ≡ t → Step c g (read g buffer place)
-    read-step false b t e k f = refused read-none (sym (ap (λ r. r .card) (reading-no-field c g buffer place e .0)))
-    read-step true false t e k f = refused read-none (sym (ap (λ r. r .card) (reading-empty c g buffer place e k .0)))
+    read-step false b t e k f = refused read-none (sym (ap (λ r. r .card) (read-no-field c g buffer place e .0)))
+    read-step true false t e k f = refused read-none (sym (ap (λ r. r .card) (read-empty c g buffer place e k .0)))
     read-step true true false e k f =
-        refused read-none (sym (ap (λ r. r .card) (reading-no-room c g buffer place e k _ (rw f) refl .0)))
+        refused read-none (sym (ap (λ r. r .card) (read-no-room c g buffer place e k _ (rw f) refl .0)))
     read-step true true true e k f =
-        let h = reading-written c g buffer place e k (length (text (numberIn (fieldOf c g)))) (over buffer place (text (numberIn (fieldOf c g)))) (rw f) (rw f) in
+        let h = read-written c g buffer place e k (length (text (numberIn (fieldOf c g)))) (over buffer place (text (numberIn (fieldOf c g)))) (rw f) (rw f) in
         puts (readState (fieldOf c g)) e (λ f r. read-none f) (sym (ap (λ r. r .card) (h .0)))
         (read-effect (fieldOf c g) refl k (sym (ap (λ r. r .refusal) (h .0))) (sym (h .1)))
 
@@ -119,7 +119,7 @@ step c (confirm g) = confirm-step c g (isField g) (isRead (fieldOf c g)) refl re
 -- so a card keeps its length, and each field sees one of the four effects
 step-length : (c : Card) {g : ℤ} {x : Call} → Step c g x → length (after c x .slots) ≡ length (c .slots)
 step-length c (refused h e) = ap (λ d. length (d .slots)) e
-step-length c {g} (puts v p h e w) = ap (λ d. length (d .slots)) e ∙ length-set (c .slots) (placeOf g) (slot v)
+step-length c {g} (puts v p h e w) = ap (λ d. length (d .slots)) e ∙ length-set (c .slots) (slotIndex g) (slot v)
 
 step-effect : (c : Card) (f : ℤ) {g : ℤ} {x : Call} → Full c → Step c g x → Dec (f ≡ g) → Effect c f x (fieldOf (after c x) f)
 step-effect c f l (refused h e) d = kept (h f) (ap (λ d. fieldOf d f) e)

@@ -1,5 +1,5 @@
 -- What the tests and the numbers of a field are, by its case. A `match` or a `let .. else` hands its last arm that the tag is one of the others'
--- (`OneOf`), and `miss` refutes the case that was tested. Assumes nothing.
+-- (`OneOf`), and `miss` refutes the case that was tested.
 use mathlib.Core.Path.{_≡_, refl, sym, ap, _∙_}
 use mathlib.Core.Bool.{true, false}
 use mathlib.Core.List.{[], _∷_}
@@ -7,13 +7,13 @@ use lib.IntN.{ℤ}
 use mir.Syntax.{w64}
 use mir.Facts.{toZ-ofZ}
 use mir.Val.{SFits, toZ, ofZ}
-use types.Run.{OneOf, miss}
 use denote.Enum.Declared.{tagOf}
-use Rattle.card.proofs.Field as FieldT
-use Rattle.card.specs.declared.Field.{Field}
-use Rattle.card.specs.declared.Field.the-variants.{Empty, Heard, Read, Confirmed}
+use types.Run.{OneOf, miss}
 use Rattle.card.specs.Fields.{isHeld, isRead, isConfirmed, numberIn}
 use Rattle.card.specs.Calls.{readState}
+use Rattle.card.specs.declared.Field.{Field}
+use Rattle.card.specs.declared.Field.the-variants.{Empty, Heard, Read, Confirmed}
+use Rattle.card.proofs.Field as FieldT
 use Rattle.card.proofs.Clash.{clash}
 
 -- a number that is held fits its type, so it is the number of its bits

@@ -1,14 +1,14 @@
--- A NUMBER HEARD ANEW IS NEVER CONFIRMED UNREAD. From any card: after an accepted hearing for field f, as long as no
--- reading of f is accepted, f does not stand confirmed, with any number. Assumes nothing.
+-- A number heard anew is never confirmed unread. From any card: after an accepted hearing for field f, as long as no reading of f is accepted, f does
+-- not stand confirmed, with any number.
 use mathlib.Core.Path.{_≡_, refl, sym, ap, _∙_}
 use mathlib.Core.Logic.{_≢_}
 use mathlib.Core.List.{List, _∷_, _++_, append-assoc, List·Memᴰ·head}
 use lib.IntN.{ℤ}
+use Rattle.card.specs.Fields.{fieldOf, Full, freshCard}
+use Rattle.card.specs.History.{Call, hear, read, after, refusal, afterAll, NothingReadOut, Story, stoodConfirmed, stoodRead, stoodHeard, wasHeard}
 use Rattle.card.specs.declared.Field.{Field}
 use Rattle.card.specs.declared.Field.the-variants.{Heard, Confirmed}
 use Rattle.card.specs.declared.Card.{Card}
-use Rattle.card.specs.Fields.{fieldOf, Full, freshCard}
-use Rattle.card.specs.History.{Call, hear, read, after, refusal, afterAll, NothingReadOut, Story, stoodConfirmed, stoodRead, stoodHeard, wasHeard}
 use Rattle.card.proofs.ConfirmedWasReadOut.{confirmed-was-read-out}
 use Rattle.card.proofs.OneCall.{Effect, heard, readOut, confirmed, kept, effect, after-length}
 use Rattle.card.proofs.Histories.{after-append, stays-full}
@@ -26,12 +26,14 @@ no-story : (c : Card) (f m : ℤ) (calls : List Call) {k : ℤ} → fieldOf c f 
 unfolding afterAll
 no-story c f m calls h unread (stoodConfirmed e q) = clash (cc)
 no-story c f m calls h unread (stoodRead e q) = clash (cc)
-no-story c f m calls h unread (stoodHeard e r) = unread (r .earlier) (r .later) (r .buffer) (r .place) (r .order) (r .accepts)
+no-story c f m calls h unread (stoodHeard e r) = let a = r .call in unread (a .earlier) (a .later) (r .buffer) (r .place) (a .order) (a .accepts)
 no-story c f m calls h unread (wasHeard r) =
     let o = r .readOut in
-    unread (r .earlier ++ hear f m ∷ o .earlier) (o .later) (o .buffer) (o .place)
-    (r .order ∙ ap (λ l. r .earlier ++ hear f m ∷ l) (o .order) ∙ simp append-assoc)
-    (ap (λ d. refusal d (read f (o .buffer) (o .place))) (after-append c (r .earlier) (hear f m ∷ o .earlier)) ∙ o .accepts)
+    let a = r .call in
+    let b = o .call in
+    unread (a .earlier ++ hear f m ∷ b .earlier) (b .later) (o .buffer) (o .place)
+    (a .order ∙ ap (λ l. a .earlier ++ hear f m ∷ l) (b .order) ∙ simp append-assoc)
+    (ap (λ d. refusal d (read f (o .buffer) (o .place))) (after-append c (a .earlier) (hear f m ∷ b .earlier)) ∙ b .accepts)
 
 pub unread-never-confirmed : (c : Card) (f n m : ℤ) (later : List Call) → Full c → refusal c (hear f n) ≡ 0
     → NothingReadOut (after c (hear f n)) f later → fieldOf (afterAll c (hear f n ∷ later)) f ≢ Confirmed m
@@ -41,7 +43,7 @@ unread-never-confirmed c f n m later l r unread e =
     no-story d f m later (now-heard c f n r (effect c f (hear f n) l) .1) unread
     (confirmed-was-read-out d later f m (after-length c (hear f n) ∙ l) e)
 
--- FROM A FRESH CARD, after any calls
+-- from a fresh card, after any calls
 pub fresh-unread-never-confirmed : (calls : List Call) (f n m : ℤ) (later : List Call) → refusal (afterAll freshCard calls) (hear f n) ≡ 0
     → NothingReadOut (after (afterAll freshCard calls) (hear f n)) f later → fieldOf (afterAll freshCard (calls ++ hear f n ∷ later)) f ≢ Confirmed m
 fresh-unread-never-confirmed calls f n m later r unread e =

@@ -1,7 +1,7 @@
--- The card and its fields (document 01, "The card"). Definitions; assumes nothing.
-use Prim.Native.Nat.{ℕ, _-_}
+-- Document 01, "The card" (RULES.md, "Fields" and "The card"): the card, its fields and their states.
 use mathlib.Core.Path.{_≡_}
 use mathlib.Core.Bool.{Bool, true, false, cond}
+use Prim.Native.Nat.{ℕ, _-_}
 use lib.IntN.{ℤ, pos, natAbs}
 use lib.ListN.{length, getD, set, replicate}
 use Rattle.exact.specs.Range.{between}
@@ -10,7 +10,8 @@ use Rattle.card.specs.declared.Field.the-variants.{Empty, Heard, Read, C
 use Rattle.card.specs.declared.Slot.{Slot}
 use Rattle.card.specs.declared.Card.{Card}
 
--- THE STATES of a field. Each holds a number, empty aside
+-- ---- the states of a field
+-- each holds a number, empty aside
 abbrev pub isHeld : Field → Bool
 isHeld Empty = false
 isHeld (Heard z) = true
@@ -36,7 +37,8 @@ numberIn (Heard z) = z
 numberIn (Read z) = z
 numberIn (Confirmed z) = z
 
--- THE CARD has a slot for each field. The fields' numbers are 1 to fieldCount
+-- ---- the card
+-- it has a slot for each field, and the fields' numbers are 1 to fieldCount
 abbrev pub fieldCount : ℕ
 fieldCount = 10
 
@@ -47,22 +49,22 @@ isField f = between (pos 1) f (pos fieldCount)
 abbrev pub DUT1 : ℤ
 DUT1 = pos 7
 
--- where field number f stands on the card: one less than its number
-abbrev pub placeOf : ℤ → ℕ
-placeOf f = natAbs f - 1
+-- the index of field number f on the card: one less than its number
+abbrev pub slotIndex : ℤ → ℕ
+slotIndex f = natAbs f - 1
 
 abbrev pub slot : Field → Slot
 slot f = record { field = f }
 
--- what stands at a place
+-- what stands at an index
 abbrev pub fieldAt : Card → ℕ → Field
 fieldAt c i = getD (c .slots) i (slot Empty) .field
 
 -- the state of field number f; a number that no field has is as good as empty
 unfoldable pub fieldOf : Card → ℤ → Field
-fieldOf c f = cond (isField f) (fieldAt c (placeOf f)) Empty
+fieldOf c f = cond (isField f) (fieldAt c (slotIndex f)) Empty
 
--- the card with another field at a place
+-- the card with another field at an index
 abbrev pub put : Card → ℕ → Field → Card
 put c i f = record { slots = set (c .slots) i (slot f) }
 
@@ -70,6 +72,6 @@ put c i f = record { slots = set (c .slots) i (slot f) }
 abbrev pub Full : Card → Type 0
 Full c = length (c .slots) ≡ fieldCount
 
--- DUT1 stands confirmed as 0, and every other field is empty
+-- DUT1 stands confirmed as 0 ms, and every other field is empty
 abbrev pub freshCard : Card
-freshCard = put (record { slots = replicate fieldCount (slot Empty) }) (placeOf DUT1) (Confirmed (pos 0))
+freshCard = put (record { slots = replicate fieldCount (slot Empty) }) (slotIndex DUT1) (Confirmed (pos 0))

@@ -1,5 +1,5 @@
 -- The definitions that the contracts and the theorems cite.
 pub mod Fields
 pub mod Calls
-pub mod Shot
+pub mod Confirmed
 pub mod History

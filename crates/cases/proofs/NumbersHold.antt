@@ -1,66 +1,28 @@
--- THE STATEMENT: every row of the table holds. antt computes the days, the instants and the sines; an angle is the largest that passes, which two tests show.
--- Assumes nothing.
-use mathlib.Core.Path.{_≡_, refl, ap}
-use Prim.Native.Nat.{ℕ, _+_, _<_}
+-- The numbers are those that are stated: one equation of two lists. antt computes the days, the instants and the sines; an angle is the largest that
+-- passes, which two tests show.
+use mathlib.Core.Path.{_≡_, refl}
 use lib.Dec.{lit<}
-use lib.IntN.{pos}
-use Rattle.exact.specs.Angle.{Q, rest, reduced}
-use Rattle.exact.specs.Division.{floorDiv, nearestℕ}
+use Rattle.exact.specs.Reduction.{rest, reduced}
+use Rattle.exact.specs.Division.{floorDiv, nearestDivℕ}
 use Rattle.exact.specs.Range.{between}
-use Rattle.calendar.specs.Date.{leapYear, monthLength, yearDays, monthDays, dayCount, isDate}
-use Rattle.calendar.specs.Time.{leapSecondDay, lastMillisecond, isTime, dayMillisecond, isDut1, sinceNoon, instant, instantOf}
+use Rattle.sine.specs.SinePolynomial.{arc, whole, polyDen, cofactor, term, polyNum}
+use Rattle.sine.specs.Sine.{entryAt, sinQuadrant, Sin, Cos}
+use Rattle.sine.specs.VectorAngle.{passes, quadrantAngle, angle}
+use Rattle.sine.proofs.Bisection.{quadrant-angle-is}
 use Rattle.epoch.specs.Epoch.{millionths}
-use Rattle.sine.specs.Polynomial.{arc, whole, polyDen, cofactor, term, polyNum}
-use Rattle.sine.specs.Sine.{entry, sinQuadrant, Sin, Cos}
-use Rattle.sine.specs.Angle.{passes, first, angle}
-use Rattle.sine.proofs.Bisection.{first-is}
-use Rattle.cases.specs.Numbers.{table, Hold}
+use Rattle.calendar.specs.Date.{leapYear, monthLength, yearDays, monthDays, dayCount, isDate}
+use Rattle.calendar.specs.Time.{leapSecondDay, lastMillisecond, isTime, dayMillisecond, isDut1, since1900, instant, instantOf}
+use Rattle.cases.specs.WorkedNumbers.{given, stated}
 
 -- the two angles of the first quadrant: each passes, and the next fails
-east : first 1 0 ≡ 1
-unfolding passes Sin Cos sinQuadrant entry nearestℕ polyNum polyDen term cofactor arc whole reduced rest floorDiv
-east = first-is 1 0 1 (lit< tt) refl (λ h. refl)
+east : quadrantAngle 1 0 ≡ 1
+unfolding passes Sin Cos sinQuadrant entryAt nearestDivℕ polyNum polyDen term cofactor arc whole reduced rest floorDiv
+east = quadrant-angle-is 1 0 1 (lit< tt) refl (λ h. refl)
 
-diagonal : first 1 1 ≡ 1620000001
-unfolding passes Sin Cos sinQuadrant entry nearestℕ polyNum polyDen term cofactor arc whole reduced rest floorDiv
-diagonal = first-is 1 1 1620000001 (lit< tt) refl (λ h. refl)
+diagonal : quadrantAngle 1 1 ≡ 1_620_000_001
+unfolding passes Sin Cos sinQuadrant entryAt nearestDivℕ polyNum polyDen term cofactor arc whole reduced rest floorDiv
+diagonal = quadrant-angle-is 1 1 1_620_000_001 (lit< tt) refl (λ h. refl)
 
-pub numbers-hold : Hold table
-unfolding leapYear monthLength yearDays monthDays dayCount isDate leapSecondDay lastMillisecond isTime dayMillisecond isDut1 sinceNoon instant millionths instantOf between floorDiv Sin sinQuadrant entry nearestℕ polyNum polyDen term cofactor arc whole angle
-numbers-hold = (
-  refl,
-  (
-    refl,
-    (
-      refl,
-      (
-        refl,
-        (
-          refl,
-          (
-            refl,
-            (
-              refl,
-              (
-                refl,
-                (
-                  refl,
-                  (
-                    refl,
-                    (
-                      refl,
-                      (
-                        refl,
-                        (ap pos east, (ap (λ (a : ℕ). pos (Q + a)) east, (ap pos diagonal, tt))),
-                      ),
-                    ),
-                  ),
-                ),
-              ),
-            ),
-          ),
-        ),
-      ),
-    ),
-  ),
-)
+pub numbers-hold : given ≡ stated
+unfolding leapYear monthLength yearDays monthDays dayCount isDate leapSecondDay lastMillisecond isTime dayMillisecond isDut1 since1900 instant millionths instantOf between floorDiv Sin sinQuadrant entryAt nearestDivℕ polyNum polyDen term cofactor arc whole angle
+numbers-hold = rw (east, diagonal)

@@ -1,1 +1,1 @@
-// The numbers of document 01, "Numbers to prove together": definitions in specs/, the one statement in proofs/. There is no code here.
+// The numbers of document 01, "Numbers to prove together": two lists in specs/, the one equation in proofs/. There is no code here.

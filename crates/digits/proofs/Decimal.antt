@@ -1,11 +1,11 @@
--- The laws of the digits, which together determine them for every n: a number below ten is one digit; any other is its quotient's digits,
--- a space and the last digit. Assumes nothing.
-use Prim.Native.Nat.{ℕ, zero, suc, _+_, _*_, _/_, _%_, _^_, _<_, _≤_}
-use native.Mathlib.Omega.{arith}
-use native.Mathlib.Nat.{pow-suc}
+-- The laws of the digits, which together determine them for every n: a number below ten is one digit; any other is its quotient's digits, a space and
+-- the last digit.
 use mathlib.Core.Path.{_≡_, refl, ap, _∙_}
 use mathlib.Core.Bool.{Bool, true, false, cond}
 use mathlib.Core.List.{List, [], _∷_, _++_}
+use Prim.Native.Nat.{ℕ, zero, suc, _+_, _*_, _/_, _%_, _^_, _<_, _≤_}
+use native.Mathlib.Omega.{arith}
+use native.Mathlib.Nat.{pow-suc}
 use lib.Dec.{ltb}
 use lib.ListN.{length, drop, set, length-append}
 use borrow.Author.Tests.{lt-ltb, le-ltb, ltb-true, ltb-false}
@@ -41,6 +41,15 @@ by-answer false p q = q refl
 
 pub by-size {ℓ} : {P : Type ℓ} (n : ℕ) → (n < 10 → P) → (10 ≤ n → P) → P
 by-size n small large = by-answer (ltb n 10) (λ t. small (ltb-true n 10 t)) (λ t. large (ltb-false n 10 t))
+
+-- what holds below ten, and of n where it holds of n / 10, holds of every number
+module _ {P : ℕ → Type 0} (one : (n : ℕ) → n < 10 → P n) (more : (n : ℕ) → 10 ≤ n → P (n / 10) → P n) where
+  below : (k n : ℕ) → n < k → P n
+  below zero n h = absurd (omega arith)
+  below (suc k) n h = by-size n (one n) (λ s. more n s (below k (n / 10) (omega arith)))
+
+  pub by-tens : (n : ℕ) → P n
+  by-tens n = below (suc n) n (omega arith)
 
 pub decimal-some : (n : ℕ) → 0 < length (decimal n)
 decimal-some n =
@@ -78,14 +87,24 @@ put-last n k l x h r e f =
     let m = length-more n h in
     rw (f, e, m, digits-more n h) (put-two (digits (n / 10)) l 32 (48 + n % 10) (omega arith))
 
--- a number of at most k + 1 digits takes at most 2k + 1 bytes
-pub length-digits : (k n : ℕ) → n < 10 ^ suc k → length (digits n) ≤ 2 * k + 1
-length-digits zero n h = let e = length-one n h in omega arith
-length-digits (suc k) n h = by-size n (λ s. let e = length-one n s in omega arith) λ s.
+-- a number below 10^(k + 1) has at most k + 1 digits
+pub length-decimal : (k n : ℕ) → n < 10 ^ suc k → length (decimal n) ≤ suc k
+length-decimal zero n h = rw (decimal-one n h) (omega arith)
+length-decimal (suc k) n h = by-size n (λ s. rw (decimal-one n s) (omega arith)) λ s.
     let p = pow-suc 10 (suc k) in
-    let e = length-more n s in
-    let i = length-digits k (n / 10) (omega arith) in
-    omega arith
+    let i = length-decimal k (n / 10) (omega arith) in
+    rw (decimal-more n s) (simp length-append (omega arith))
+
+-- which take at most 2k + 1 bytes
+length-spaced : (l : List ℕ) → 0 < length l → length (spaced l) + 1 ≡ 2 * length l
+unfolding spaced
+length-spaced [] h = absurd (omega arith)
+length-spaced (d ∷ []) h = refl
+length-spaced (d ∷ e ∷ l) h = let i = length-spaced (e ∷ l) (omega arith) in omega arith
+
+pub length-digits : (k n : ℕ) → n < 10 ^ suc k → length (digits n) ≤ 2 * k + 1
+unfolding digits
+length-digits k n h = let i = length-decimal k n h in let e = length-spaced (decimal n) (decimal-some n) in omega arith
 
 -- so the digits of a number of 64 bits take at most 39
 pub length-digits-64 : (n : ℕ) → n < 2 ^ 64 → length (digits n) ≤ 39

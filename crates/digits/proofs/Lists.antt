@@ -1,12 +1,12 @@
--- Facts on lists that the writers' proofs use. Assumes nothing.
+-- Facts on lists that the writers' proofs use.
+use mathlib.Core.Path.{_≡_, refl, sym, ap, _∙_}
+use mathlib.Core.List.{List, [], _∷_, _++_, append-assoc, append-nil}
 use Prim.Native.Nat.{ℕ, suc, _+_, _-_, _≤_}
 use native.Mathlib.Omega.{arith}
 use native.Mathlib.Numerals.{add-one}
-use mathlib.Core.Path.{_≡_, refl, sym, ap, _∙_}
-use mathlib.Core.List.{List, [], _∷_, _++_, append-assoc, append-nil}
 use lib.ListN.{length, take, drop, set, length-append, length-drop, length-set, drop-of-length-le}
-use borrow.Rule.Slice.PartMut.{putMid}
 use lib.Seq.{sets-eq, take-at, drop-append-add, drop-drop, take-all}
+use borrow.Rule.Slice.PartMut.{putMid}
 
 -- two bytes put behind d, which stands at the front of l
 pub put-two : (d l : List ℕ) (a b : ℕ) → length d + 2 ≤ length l

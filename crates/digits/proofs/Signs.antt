@@ -1,8 +1,8 @@
--- The text of a number by its sign. Assumes nothing.
-use native.Mathlib.Omega.{arith}
+-- The text of a number by its sign.
 use mathlib.Core.Path.{_≡_, refl, subst}
 use mathlib.Core.Bool.{true, false}
 use mathlib.Core.List.{_∷_}
+use native.Mathlib.Omega.{arith}
 use lib.Dec.{T}
 use lib.IntN.{ℤ, pos, negsuc, natAbs}
 use lib.Signed.{ltZ}

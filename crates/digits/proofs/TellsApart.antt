@@ -1,16 +1,16 @@
--- THE TEXT TELLS NUMBERS APART: equal texts are texts of equal numbers, for all whole numbers. So what is read out shows exactly the number
--- that was heard. Assumes nothing.
-use Prim.Native.Nat.{ℕ, zero, suc, _+_, _-_, _*_, _/_, _%_, _<_}
-use native.Mathlib.Omega.{arith}
+-- The text tells numbers apart: equal texts are texts of equal numbers, for all whole numbers. So what is read out shows exactly the number that was
+-- heard.
 use mathlib.Core.Path.{_≡_, refl, sym, ap, _∙_}
 use mathlib.Core.Bool.{cond}
 use mathlib.Core.List.{List, [], _∷_, _++_}
+use Prim.Native.Nat.{ℕ, suc, _+_, _-_, _*_, _/_, _%_}
+use native.Mathlib.Omega.{arith}
 use lib.Dec.{eqb}
 use lib.IntN.{ℤ, pos, negsuc, natAbs}
 use lib.ListN.{length}
 use borrow.Author.Tests.{ne-eqb}
 use Rattle.digits.specs.Text.{digits, text}
-use Rattle.digits.proofs.Decimal.{digits-one, digits-more, by-size}
+use Rattle.digits.proofs.Decimal.{digits-one, digits-more, by-tens}
 
 -- the number that a text shows, with n read so far: a space is passed over, and "-" counts as a 0
 value : ℕ → List ℕ → ℕ
@@ -26,18 +26,17 @@ value-digit : (n d : ℕ) → value n ((48 + d) ∷ []) ≡ 10 * n + d
 unfolding value
 value-digit n d = rw (ne-eqb (48 + d) 32 (λ e. omega arith)) (omega arith)
 
--- the value of n's digits is n. (k bounds n, for the induction)
-value-digits : (k n : ℕ) → n < k → value 0 (digits n) ≡ n
+-- the value of n's digits is n
+value-digits : (n : ℕ) → value 0 (digits n) ≡ n
 unfolding value
-value-digits zero n h = absurd (omega arith)
-value-digits (suc k) n h = by-size n (λ s. rw (digits-one n s) (value-digit 0 n ∙ omega arith)) λ s.
-    let i = value-digits k (n / 10) (omega arith) in
-    rw (digits-more n s, value-append, i) (value-digit (n / 10) (n % 10) ∙ omega arith)
+value-digits =
+    by-tens {P = λ n. value 0 (digits n) ≡ n} (λ n h. rw (digits-one n h) (value-digit 0 n ∙ omega arith)) λ n h e.
+    rw (digits-more n h, value-append, e) (value-digit (n / 10) (n % 10) ∙ omega arith)
 
 value-text : (z : ℤ) → value 0 (text z) ≡ natAbs z
 unfolding value
-value-text (pos n) = value-digits (suc n) n (omega arith)
-value-text (negsuc n) = value-digits (suc (suc n)) (suc n) (omega arith)
+value-text (pos n) = value-digits n
+value-text (negsuc n) = value-digits (suc n)
 
 -- "-" and a space are not part of any digits: the lengths would differ
 sign-shows : (m n : ℕ) → m ≡ suc n → digits m ≡ 45 ∷ 32 ∷ digits (suc n) → ⊥

@@ -1,11 +1,11 @@
--- The text of a number as it is read out (document 01, "The card"): "-" and a space if negative, then the decimal digits, most significant
--- first, one space between, no leading zero. A text is a list of ASCII bytes. Definitions and the examples of document 01; assumes nothing.
-use Prim.Native.Nat.{ℕ, zero, suc, _+_, _/_, _%_}
+-- Document 01, "The card" (RULES.md, "The card"): the text of a number as it is read out, a list of ASCII bytes. The digits of its magnitude stand from
+-- the highest down, without zeros in front and with single spaces between; a negative number has a minus and a space before them.
 use mathlib.Core.Path.{_≡_, refl}
 use mathlib.Core.Bool.{cond}
 use mathlib.Core.List.{List, [], _∷_, _++_}
+use Prim.Native.Nat.{ℕ, zero, suc, _+_, _/_, _%_}
 use lib.Dec.{ltb}
-use lib.IntN.{ℤ, pos, negsuc}
+use lib.IntN.{ℤ, pos, negsuc, negℤ}
 
 -- the decimal digits of n, most significant first, where n has at most so many places
 unfoldable pub decimalIn : ℕ → ℕ → List ℕ
@@ -16,7 +16,7 @@ decimalIn (suc places) n = cond (ltb n 10) (n ∷ []) (decimalIn places (n / 10)
 unfoldable pub decimal : ℕ → List ℕ
 decimal n = decimalIn (suc n) n
 
--- digits as bytes, one space between
+-- digits as bytes, with single spaces between
 unfoldable pub spaced : List ℕ → List ℕ
 spaced [] = []
 spaced (d ∷ []) = (48 + d) ∷ []
@@ -25,7 +25,7 @@ spaced (d ∷ e ∷ l) = (48 + d) ∷ 32 ∷ spaced (e ∷ l)
 unfoldable pub digits : ℕ → List ℕ
 digits n = spaced (decimal n)
 
--- "-" and a space if negative, then the digits of the magnitude
+-- the digits, behind "-" and a space where the number is below 0
 abbrev pub text : ℤ → List ℕ
 text (pos n) = digits n
 text (negsuc n) = 45 ∷ 32 ∷ digits (suc n)
@@ -36,7 +36,7 @@ unfolding digits spaced decimal decimalIn
 fifty = refl
 
 -- "- 7 5"
-minus-seventy-five : text (negsuc 74) ≡ 45 ∷ 32 ∷ 55 ∷ 32 ∷ 53 ∷ []
+minus-seventy-five : text (negℤ (pos 75)) ≡ 45 ∷ 32 ∷ 55 ∷ 32 ∷ 53 ∷ []
 unfolding digits spaced decimal decimalIn
 minus-seventy-five = refl
 

@@ -1,12 +1,10 @@
-// The text of a number as it is read out: "-" and a space if negative, then the decimal digits with one space between
-// (document 01, "The card").
+// The text of a number as it is read out, and the writing of it into a buffer. Document 01, "The card".
 ghost use mathlib.Core.Path.{_≡_};
 ghost use mathlib.Core.List.{_++_};
 ghost use Prim.Native.Nat.{_+_, _%_, _≤_};
-ghost use lib.IntN.{natAbs};
 ghost use lib.ListN.{length, drop};
 ghost use Rattle.digits.specs.Text.{digits, text};
-ghost use Rattle.digits.specs.Writing.{written, bufferWith};
+ghost use Rattle.digits.specs.Writing.{writeAt, bufferWith};
 
 // What writing at a place of a buffer answers.
 pub enum Written {
@@ -17,7 +15,7 @@ pub enum Written {
 }
 
 // The last decimal digit of n, as a byte.
-fn last_digit(n: u64) -> u8
+pub fn last_digit(n: u64) -> u8
     ensures { λ r. ⌜ r ≡ 48 + n % 10 ⌝ }
 {
     b'0' + (n % 10) as u8
@@ -72,7 +70,7 @@ fn write_text(buf: &mut [u8], n: i64) -> usize
 
 // Writes the text of n from a place of the buffer on. Where it does not fit, the buffer stays as it was.
 pub fn write_at(buf: &mut [u8], place: usize, n: i64) -> Written
-    ensures { λ r. ⌜ r ≡ written (now (buf .entry)) place n ⌝ }
+    ensures { λ r. ⌜ r ≡ writeAt (now (buf .entry)) place n ⌝ }
     ensures { λ r. ⌜ now (buf .exit) ≡ bufferWith (now (buf .entry)) place n ⌝ }
 {
     if buf.len() < place {

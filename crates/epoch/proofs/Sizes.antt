@@ -1,5 +1,4 @@
 -- The size of N and q at every accepted instant.
--- Assumes nothing.
 use mathlib.Core.Path.{refl, subst⁻¹}
 use Prim.Native.Nat.{_≤_, _<_, _^_}
 use native.Mathlib.Omega.{arith}
@@ -20,29 +19,29 @@ use Rattle.epoch.specs.declared.Epoch.{Epoch}
 pub span-size : (n : ℤ) → Span n → natAbs n < 2 ^ 43
 span-size n = rw (split n) (simp zs (omega arith))
 
-pub millionths-range : (n : ℤ) → Span n → (pos 759986 ≤ℤ millionths n) × (millionths n ≤ℤ pos 1500000)
+pub millionths-range : (n : ℤ) → Span n → (pos 759_986 ≤ℤ millionths n) × (millionths n ≤ℤ pos 1_500_000)
 unfolding millionths floorDiv
 millionths-range n h =
     let s = scaled n h in (
-      floor-mono (pos 2398334399100000000) (pos 1000000 *ℤ n) century (lit< tt) (s .0),
-      floor-mono (pos 1000000 *ℤ n) (pos 4733640001899000000) century (lit< tt) (s .1),
+      floor-mono (pos 2_398_334_399_100_000_000) (pos 1_000_000 *ℤ n) century (lit< tt) (s .0),
+      floor-mono (pos 1_000_000 *ℤ n) (pos 4_733_640_001_899_000_000) century (lit< tt) (s .1),
     )
   where
-    scaled : (n : ℤ) → Span n → (pos 2398334399100000000 ≤ℤ (pos 1000000 *ℤ n)) × ((pos 1000000 *ℤ n) ≤ℤ pos 4733640001899000000)
+    scaled : (n : ℤ) → Span n → (pos 2_398_334_399_100_000_000 ≤ℤ (pos 1_000_000 *ℤ n)) × ((pos 1_000_000 *ℤ n) ≤ℤ pos 4_733_640_001_899_000_000)
     scaled n = rw (split n) (simp zs (omega arith))
 
 module _ {e : Epoch} (h : InSpan e) where
   pub n-size : natAbs (e .n) < 2 ^ 43
   n-size = span-size (e .n) (h .span)
 
-  pub q-size : natAbs (e .q) ≤ 1500000
-  q-size = subst⁻¹ (λ (z : ℤ). natAbs z ≤ 1500000) (h .millionths) (go (millionths (e .n)) (millionths-range (e .n) (h .span)))
+  pub q-size : natAbs (e .q) ≤ 1_500_000
+  q-size = subst⁻¹ (λ (z : ℤ). natAbs z ≤ 1_500_000) (h .millionths) (go (millionths (e .n)) (millionths-range (e .n) (h .span)))
     where
-      go : (z : ℤ) → (pos 759986 ≤ℤ z) × (z ≤ℤ pos 1500000) → natAbs z ≤ 1500000
+      go : (z : ℤ) → (pos 759_986 ≤ℤ z) × (z ≤ℤ pos 1_500_000) → natAbs z ≤ 1_500_000
       go z = rw (split z) (simp zs (omega arith))
 
   pub n-fits : SFits w64 (e .n)
   n-fits = fits-lt (2 ^ 43) (e .n) n-size refl
 
   pub q-fits : SFits w64 (e .q)
-  q-fits = fits-le 1500000 (e .q) q-size refl
+  q-fits = fits-le 1_500_000 (e .q) q-size refl

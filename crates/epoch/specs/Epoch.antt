@@ -1,5 +1,4 @@
--- Document 01, "Time": an instant as a number of milliseconds, N, and of millionths of a century, q.
--- Assumes nothing.
+-- Document 01, "Time" (RULES.md, "Time"): an instant as a number of milliseconds, N, and of millionths of a century, q.
 use lib.IntN.{ℤ, pos, _*ℤ_}
 use Rattle.exact.specs.Century.{century}
 use Rattle.exact.specs.Division.{floorDiv}
@@ -7,7 +6,7 @@ use Rattle.epoch.specs.declared.Epoch.{Epoch}
 
 -- 01's q: the millionths of a century in N, rounded down
 unfoldable pub millionths : ℤ → ℤ
-millionths n = floorDiv (pos 1000000 *ℤ n) century
+millionths n = floorDiv (pos 1_000_000 *ℤ n) century
 
 abbrev pub epoch : ℤ → ℤ → Epoch
 epoch n q = record { n = n; q = q }

@@ -1,5 +1,4 @@
 -- How large the numbers of an epoch are, so that no step of the theory leaves 64 bits.
--- Assumes nothing.
 use mathlib.Core.Path.{_≡_}
 use lib.IntN.{ℤ, pos}
 use lib.Signed.{_≤ℤ_}
@@ -8,7 +7,7 @@ use Rattle.epoch.specs.declared.Epoch.{Epoch}
 
 -- N of an accepted instant: from 1976-01-01 with DUT1 −900 to the leap second of 2049-12-31 with DUT1 900
 abbrev pub Span : ℤ → Type 0
-Span n = (pos 2398334399100 ≤ℤ n) × (n ≤ℤ pos 4733640001899)
+Span n = (pos 2_398_334_399_100 ≤ℤ n) × (n ≤ℤ pos 4_733_640_001_899)
 
 pub record InSpan (e : Epoch) : Type 0 where
   pub span : Span (e .n)

@@ -1,5 +1,4 @@
 -- What the result of a choice says of the test: where it is not what the other way gives, the test went this way.
--- Assumes nothing.
 use mathlib.Core.Path.{_≡_, refl}
 use mathlib.Core.Bool.{Bool, true, false, cond}
 

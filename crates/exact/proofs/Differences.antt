@@ -1,21 +1,22 @@
 -- Statements over ℤ by `omega`, which reads only ℕ. Every integer z is a difference `dif (up z) (dn z)` of two naturals (`split z`), and a sum, a product, an
 -- equation, an order or a bound of differences is one of naturals: the set `zs`, at the end. So a lemma over plain variables is proved by one line,
 --     foo a b c = rw (split a, split b, split c) (simp zs (omega arith))
--- with ITS HYPOTHESES LEFT IN THE GOAL, not bound on the left: `simp` turns them too, and `omega` enters them. A conjunction of conclusions, `A × B × C`, is one call.
+-- with its hypotheses left in the goal, not bound on the left: `simp` rewrites them too, and `omega` enters them. A conjunction of conclusions, `A × B × C`, is one call.
 --   * A term that is no variable, as `floorDiv z d`, is made one: a helper `go : (z q : ℤ) → ..`, called at `go z (floorDiv z d)`.
 --   * Write `(a +ℤ b) ≤ℤ c` with its parentheses: `_≤ℤ_` and `_<ℤ_` bind tighter than `_+ℤ_` and `_*ℤ_`.
---   * `omega` multiplies out up to 64 monomials: products of three variables pass, of four do not. For those there is `Ring`.
+--   * `omega` multiplies out up to 64 monomials: products of three variables pass, and one product of four.
 --   * An order with a product of two variables wants its factor handed over: `simp zs (λ h. omega (arith, mul-le-mul-left d h))`, as `*-mono` of `Integers`.
 --   * A sum of absolute values, `natAbs a + natAbs b < n`, wants `simp (zs, abs-dif)`.
 use mathlib.Core.Path.{_≡_, refl, sym, ap, ap₂, _∙_, subst}
 use mathlib.Core.Logic.{_↔_}
 use mathlib.Core.Bool.{Bool, true, false, not, cond}
 use Prim.Native.Nat.{ℕ, zero, suc, _+_, _*_, _-_, _^_, _≤_, _<_}
+use native.Mathlib.Decide.{decLe}
 use native.Mathlib.Omega.{arith}
 use lib.Dec.{T, ltb, ltb→lt, lt→ltb, nltb→le, leb→le, le→leb}
 use lib.Arith.{le→nltb}
 use lib.IntN.{ℤ, pos, negsuc, subℕ, negℤ, natAbs, _+ℤ_, _*ℤ_}
-use lib.Signed.{leZ, ltZ, _≤ℤ_, _<ℤ_, leZ-yes, ltZ-yes}
+use lib.Signed.{leZ, ltZ, _≤ℤ_, _<ℤ_, leZ-yes, ltZ-yes, ltZ-no, clashℤ}
 use mir.Syntax.{Width}
 use mir.Val.{SFits, hbits}
 
@@ -180,26 +181,17 @@ le-dif a b c d = (go (form a b) (form c d), back (form a b) (form c d))
     back (minus k p) (plus l q) h = bring _ _ _ _ (at-neg a b k p) (at-pos c d l q) tt
     back (minus k p) (minus l q) h = bring _ _ _ _ (at-neg a b k p) (at-neg c d l q) (le→leb l k (omega arith))
 
+-- the strict order is what the other, the other way round, is not
 pub lt-dif : (a b c d : ℕ) → (dif a b <ℤ dif c d) ↔ (a + d < c + b)
-lt-dif a b c d = (go (form a b) (form c d), back (form a b) (form c d))
+lt-dif a b c d = (λ h. go h (decLe (c + b) (a + d)), λ h. back h (ltZ (dif a b) (dif c d)) refl)
   where
-    carry : (x y z w : ℤ) → x ≡ z → y ≡ w → x <ℤ y → T (ltZ z w)
-    carry x y z w p q h = (rw (p, q) at h) .lt
+    go : dif a b <ℤ dif c d → Dec (c + b ≤ a + d) → a + d < c + b
+    go h (yes k) = clashℤ h (le-dif c d a b .1 k)
+    go h (no k) = omega arith
 
-    bring : (x y z w : ℤ) → x ≡ z → y ≡ w → T (ltZ z w) → x <ℤ y
-    bring x y z w p q h = rw (p, q) (ltZ-yes h)
-
-    go : Form a b → Form c d → dif a b <ℤ dif c d → a + d < c + b
-    go (plus k p) (plus l q) h = let t : k < l = ltb→lt k l (carry _ _ _ _ (at-pos a b k p) (at-pos c d l q) h) in omega arith
-    go (plus k p) (minus l q) h = absurd (carry _ _ _ _ (at-pos a b k p) (at-neg c d l q) h)
-    go (minus k p) (plus l q) h = omega arith
-    go (minus k p) (minus l q) h = let t : l < k = ltb→lt l k (carry _ _ _ _ (at-neg a b k p) (at-neg c d l q) h) in omega arith
-
-    back : Form a b → Form c d → a + d < c + b → dif a b <ℤ dif c d
-    back (plus k p) (plus l q) h = bring _ _ _ _ (at-pos a b k p) (at-pos c d l q) (lt→ltb k l (omega arith))
-    back (plus k p) (minus l q) h = absurd (omega arith)
-    back (minus k p) (plus l q) h = bring _ _ _ _ (at-neg a b k p) (at-pos c d l q) tt
-    back (minus k p) (minus l q) h = bring _ _ _ _ (at-neg a b k p) (at-neg c d l q) (lt→ltb l k (omega arith))
+    back : a + d < c + b → (t : Bool) → ltZ (dif a b) (dif c d) ≡ t → dif a b <ℤ dif c d
+    back h true e = ltZ-yes (subst T (sym e) tt)
+    back h false e = let k = le-dif c d a b .0 (ltZ-no (subst (λ (x : Bool). T (not x)) (sym e) tt)) in absurd (omega arith)
 
 -- ---- the range of a signed width: `SFits w64 z` is −2^63 ≤ z < 2^63
 pub fits-dif : (w : Width) (a b : ℕ) → SFits w (dif a b) ↔ ((a < b + 2 ^ hbits w) × (b ≤ a + 2 ^ hbits w))
@@ -227,5 +219,5 @@ abs-le-dif a b n = (λ h. omega (arith, abs-dif a b), λ h. omega (arith, abs-di
 pub abs-lt-dif : (a b n : ℕ) → (natAbs (dif a b) < n) ↔ ((a < b + n) × (b < a + n))
 abs-lt-dif a b n = (λ h. omega (arith, abs-dif a b), λ h. omega (arith, abs-dif a b))
 
--- THE SET
+-- ---- the set
 pub ruleset zs = (pos-dif, negsuc-dif, neg-dif, add-dif, mul-dif, eq-dif, le-dif, lt-dif, fits-dif, abs-le-dif, abs-lt-dif)

@@ -23,14 +23,15 @@ within-step d x y z w =
     rw (split x, split y, split z, split w) (simp zs (λ h k l. le-of-suc-le-suc (lt-of-mul-lt-mul-left d (omega arith))))
 
 -- ---- absolute values
-pub abs-neg : (n : ℕ) → natAbs (negℤ (pos n)) ≡ n
-abs-neg zero = refl
-abs-neg (suc n) = refl
+pub abs-neg : (z : ℤ) → natAbs (negℤ z) ≡ natAbs z
+abs-neg (pos zero) = refl
+abs-neg (pos (suc n)) = refl
+abs-neg (negsuc n) = refl
 
 pub abs-* : (a b : ℤ) → natAbs (a *ℤ b) ≡ natAbs a * natAbs b
 abs-* (pos a) (pos b) = refl
-abs-* (pos a) (negsuc b) = abs-neg (a * suc b)
-abs-* (negsuc a) (pos b) = abs-neg (suc a * b)
+abs-* (pos a) (negsuc b) = abs-neg (pos (a * suc b))
+abs-* (negsuc a) (pos b) = abs-neg (pos (suc a * b))
 abs-* (negsuc a) (negsuc b) = refl
 
 pub abs-*-le : (a b : ℤ) (m n : ℕ) → natAbs a ≤ m → natAbs b ≤ n → natAbs (a *ℤ b) ≤ m * n

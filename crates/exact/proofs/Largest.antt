@@ -1,13 +1,12 @@
 -- The law of `largest`, and of the square root by it: a number that passes, where no larger one does, is the largest. So no proof counts up to it.
--- Assumes nothing.
 use mathlib.Core.Path.{_≡_, sym, ap, _∙_}
 use mathlib.Core.Bool.{Bool, true, false, cond}
 use mathlib.Core.Logic.{⊎-elim}
 use Prim.Native.Nat.{ℕ, zero, suc, _+_, _*_, _≤_, _<_}
 use native.Mathlib.Nat.{le-refl, eq-or-lt-of-le, not-suc-le-zero, le-of-suc-le-suc, mul-le-mul}
 use native.Mathlib.Omega.{arith}
-use borrow.Author.Tests.{le-leb, lt-leb}
 use lib.Dec.{leb}
+use borrow.Author.Tests.{le-leb, lt-leb}
 use Rattle.exact.specs.Largest.{largest, root}
 
 pub largest-is : (p : ℕ → Bool) (n a : ℕ) → a < n → p a ≡ true → ((b : ℕ) → a < b → b < n → p b ≡ false) → largest p n ≡ a

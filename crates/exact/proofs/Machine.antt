@@ -4,15 +4,15 @@ use mathlib.Core.Bool.{Bool, true, false, not, _&&_, true≢false}
 use Prim.Native.Nat.{ℕ, _^_, _≤_, _<_}
 use native.Mathlib.Nat.{lt-of-le-of-lt, lt-of-lt-of-le}
 use native.Mathlib.Omega.{arith}
-use borrow.Author.Tests.{ltb-true, leb-true}
 use lib.Dec.{T, leb, ltb, leb→le}
-use lib.IntN.{ℤ, pos, negsuc, natAbs}
+use lib.IntN.{ℤ, pos, negsuc, negℤ, natAbs, _-ℤ_}
 use lib.Signed.{mag, ltZ, leZ, nonNeg, _≤ℤ_, _<ℤ_, ltZ-yes, ltZ-no, leZ-yes, yes-nonNeg}
 use mir.Facts.{toZ-ofZ}
 use mir.Syntax.{w64}
 use mir.Val.{Fits, SFits, ofZ, toZ}
+use borrow.Author.Tests.{ltb-true, leb-true}
 use Rattle.exact.specs.Range.{between}
-use Rattle.exact.proofs.Differences.{split, zs}
+use Rattle.exact.proofs.Differences.{split, zs, abs-dif}
 
 -- ---- what the machine reads back
 -- At a need itself `simp (toZ-ofZ, f, g, ..) t` puts each z, with a proof f that it fits, at the very number, no `(i : ℕ) → ..`, and t proves what is left.
@@ -58,9 +58,16 @@ pub abs-word : (z : ℤ) → SFits w64 z → Fits w64 (natAbs z)
 abs-word (pos n) f = record { fits = omega (arith, f .sfits) }
 abs-word (negsuc n) f = record { fits = omega (arith, f .sfits) }
 
--- ---- casts: `x as usize` of an x that is not negative, and `i as i64`
+-- ---- −z, as the code works it out
+pub negated : (z : ℤ) → natAbs z < 2 ^ 62 → SFits w64 (pos 0 -ℤ z) × (pos 0 -ℤ z ≡ negℤ z) × (natAbs (pos 0 -ℤ z) ≡ natAbs z)
+negated z = rw (split z) (simp (zs, abs-dif) (omega arith))
+
+-- ---- casts: `x as u64` of an x that is not negative, and `n as i64`
 pub to-nat : (z : ℤ) → pos 0 ≤ℤ z → SFits w64 z → T (nonNeg z) × Fits w64 (natAbs z)
 to-nat z h f = (yes-nonNeg h, abs-word z f)
+
+pub as-signed : (n : ℕ) → n < 2 ^ 63 → toZ w64 n ≡ pos n
+as-signed n h = toZ-ofZ {w = w64} {z = pos n} (record { sfits = h })
 
 -- ---- a range that was tested
 pub between-low : (low z high : ℤ) → between low z high ≡ true → low ≤ℤ z

@@ -1,24 +1,9 @@
 -- Newton's step for a square root, on natural numbers: from any guess above 0 it lands at the root or above.
--- Assumes nothing.
 use mathlib.Core.Path.{_≡_}
-use Prim.Native.Nat.{ℕ, zero, suc, _+_, _*_, _-_, _/_, _≤_, _<_}
+use Prim.Native.Nat.{ℕ, zero, suc, _+_, _*_, _/_, _≤_, _<_}
 use native.Mathlib.Nat.{lt-suc-self, zero-lt-suc, mul-le-mul-right, div-lt-iff-lt-mul, div-mul-le-self}
-use native.Mathlib.Decide.{decLe}
 use native.Mathlib.Omega.{arith}
-
--- a product is at most the square of the mean
-mean : (s r m : ℕ) → s + r ≤ m + m → s * r ≤ m * m
-mean s r m h = by (decLe r m)
-  where
-    low : (d : ℕ) → m ≡ r + d → s * r ≤ m * m
-    low d e = let l : s ≤ r + d + d = omega arith in rw e (omega (arith, mul-le-mul-right r l))
-
-    high : (d e : ℕ) → r ≡ m + d → m ≡ s + d + e → s * r ≤ m * m
-    high d e p q = rw (p, q) (omega arith)
-
-    by : Dec (r ≤ m) → s * r ≤ m * m
-    by (yes k) = low (m - r) (omega arith)
-    by (no k) = high (r - m) (m - (s + (r - m))) (omega arith) (omega arith)
+use Rattle.exact.proofs.Products.{mean}
 
 -- x < (h + 1)² says that h is at the root or above
 pub step-above : (x h : ℕ) → 0 < h → x < ((h + x / h) / 2 + 1) * ((h + x / h) / 2 + 1)

@@ -9,9 +9,9 @@ use lib.Signed.{mag, mag-rem, quotZ, remZ, _≤ℤ_, _<ℤ_}
 use mir.Syntax.{Width}
 use mir.Val.{SFits, ofZ}
 use Rattle.exact.specs.Division.{floorDiv}
-use Rattle.exact.specs.Angle.{rest}
+use Rattle.exact.specs.Reduction.{rest}
 use Rattle.exact.proofs.Differences.{split, zs}
-use Rattle.exact.proofs.Turn.{rest-of}
+use Rattle.exact.proofs.Reduction.{rest-of}
 
 -- a positive integer is a positive natural
 pub data Positive : ℤ → Type 0 where
@@ -59,17 +59,14 @@ rem-abs (negsuc a) n h = let m = mod-lt (suc a) h in simp zs (omega arith)
 -- with d more where it is negative, it is what the quotient rounded down leaves
 pub rem-more : (a : ℤ) (n : ℕ) → 0 < n → remZ a (pos n) <ℤ pos 0 → remZ a (pos n) +ℤ pos n ≡ pos (rest a n)
 rem-more a n h l =
-    rest-of a (quotZ a (pos n) -ℤ pos 1) (remZ a (pos n) +ℤ pos n) n (eq a (quotZ a (pos n)) (remZ a (pos n)) (rem-eq a n))
-    (low (remZ a (pos n)) (rem-abs a n h)) (high (remZ a (pos n)) l)
+    let q = quotZ a (pos n) in
+    let r = remZ a (pos n) in
+    let g = go a q r (rem-eq a n) (rem-abs a n h) l in
+    rest-of a (q -ℤ pos 1) (r +ℤ pos n) n (g .0) (g .1) (g .2)
   where
-    eq : (a q r : ℤ) → a ≡ pos n *ℤ q +ℤ r → a ≡ pos n *ℤ (q -ℤ pos 1) +ℤ (r +ℤ pos n)
-    eq a q r = rw (split a, split q, split r) (simp zs (omega arith))
-
-    low : (r : ℤ) → natAbs r < n → pos 0 ≤ℤ (r +ℤ pos n)
-    low r = rw (split r) (simp zs (omega arith))
-
-    high : (r : ℤ) → r <ℤ pos 0 → (r +ℤ pos n) <ℤ pos n
-    high r = rw (split r) (simp zs (omega arith))
+    go : (a q r : ℤ) → a ≡ pos n *ℤ q +ℤ r → natAbs r < n → r <ℤ pos 0
+        → (a ≡ pos n *ℤ (q -ℤ pos 1) +ℤ (r +ℤ pos n)) × (pos 0 ≤ℤ (r +ℤ pos n)) × ((r +ℤ pos n) <ℤ pos n)
+    go a q r = rw (split a, split q, split r) (simp zs (omega arith))
 
 pub rem-same : (a : ℤ) (n : ℕ) → 0 < n → pos 0 ≤ℤ remZ a (pos n) → remZ a (pos n) ≡ pos (rest a n)
 rem-same a n h l = rest-of a (quotZ a (pos n)) (remZ a (pos n)) n (rem-eq a n) l (high (remZ a (pos n)) (rem-abs a n h))

@@ -1,5 +1,4 @@
--- Document 01, "Time": the century that rates of change are given for.
--- Assumes nothing.
+-- Document 01, "Time" (RULES.md, "Units"): the century that rates of change are given for.
 use Prim.Native.Nat.{ℕ}
 
 -- 01's C: 36,525 days, in ms

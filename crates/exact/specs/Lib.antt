@@ -1,6 +1,8 @@
 pub mod Division
-pub mod Angle
+pub mod Reduction
 pub mod Century
 pub mod Largest
 pub mod Range
 pub mod Decimal
+pub mod Nth
+pub mod Sizes

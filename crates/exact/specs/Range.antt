@@ -1,5 +1,4 @@
--- Document 01, "The card": a number accepted between two others, both included.
--- Assumes nothing.
+-- Document 01, "The card" (RULES.md, "Fields"): a number between two others, both included.
 use mathlib.Core.Bool.{Bool, _&&_}
 use lib.IntN.{ℤ}
 use lib.Signed.{leZ}

@@ -4,8 +4,8 @@ ghost use mathlib.Core.Path.{_≡_};
 ghost use Prim.Native.Nat.{_+_, _*_, _<_, _≤_, _^_};
 ghost use lib.IntN.{pos, natAbs, _*ℤ_};
 ghost use lib.Signed.{_<ℤ_};
-ghost use Rattle.exact.specs.Division.{floorDiv, nearest};
-ghost use Rattle.exact.specs.Angle.{turn, reduced};
+ghost use Rattle.exact.specs.Division.{floorDiv, nearestDiv};
+ghost use Rattle.exact.specs.Reduction.{turn, reduced};
 ghost use Rattle.exact.specs.Century.{century};
 ghost use Rattle.exact.specs.Largest.{root};
 ghost use Rattle.exact.specs.Range.{between};
@@ -13,8 +13,14 @@ ghost use Rattle.exact.specs.Range.{between};
 // A turn, in units of 0.0001″.
 pub const TURN: i64 = 12_960_000_000;
 
+// So many whole turns that any angle of at most 2^61 units is natural with them.
+const TURNS: i64 = 200_000_000 * TURN;
+
 // A Julian century of 36,525 days, in milliseconds: document 01's C.
 pub const CENTURY: i64 = 3_155_760_000_000;
+
+// A millionth of a century, in milliseconds.
+const MILLIONTH: u64 = 3_155_760;
 
 // Whether x lies between two numbers, both included.
 pub fn between(low: i64, x: i64, high: i64) -> bool
@@ -47,7 +53,7 @@ pub fn floor_div(a: i64, d: i64) -> i64
 // The whole number nearest to a / d, a half rounded up: the floor with half of d more.
 pub fn nearest_div(a: i64, d: i64) -> i64
     requires { ⌜ (pos 0 <ℤ d) × (natAbs a + 2 * natAbs d ≤ 2 ^ 62) ⌝ }
-    ensures { λ r. ⌜ r ≡ nearest a (natAbs d) ⌝ }
+    ensures { λ r. ⌜ r ≡ nearestDiv a (natAbs d) ⌝ }
 {
     floor_div(a + d / 2, d)
 }
@@ -60,9 +66,6 @@ pub fn reduced(a: i64) -> u64
     if r < 0 { (r + TURN) as u64 } else { r as u64 }
 }
 
-// So many whole turns that any angle of at most 2^61 units is natural with them.
-const TURNS: i64 = 200_000_000 * TURN;
-
 // The same of an angle of at most 2^61 units, without a test of the sign.
 pub fn reduced_bounded(a: i64) -> u64
     requires { ⌜ natAbs a ≤ 2 ^ 61 ⌝ }
@@ -70,9 +73,6 @@ pub fn reduced_bounded(a: i64) -> u64
 {
     (a + TURNS) as u64 % TURN as u64
 }
-
-// A millionth of a century, in milliseconds.
-const MILLIONTH: u64 = 3_155_760;
 
 // b * n / CENTURY, rounded down, for a natural b. With three centuries more n is a natural m, and the quotient is 3 * b more. As CENTURY
 // is 1,000,000 * MILLIONTH, m = q * MILLIONTH + r has the quotient (b * q + b * r / MILLIONTH) / 1,000,000, whose products fit.

@@ -1,33 +1,32 @@
 -- A shot by what its parts answer: a refusal of the card, the calendar, the site or the sight is handed on, or the shot goes on from there.
--- Assumes nothing.
-use Prim.Native.Nat.{ℕ}
-use native.Mathlib.Omega.{arith}
 use mathlib.Core.Path.{_≡_, refl, ap, _∙_}
 use mathlib.Core.List.{List}
+use Prim.Native.Nat.{ℕ}
+use native.Mathlib.Omega.{arith}
 use lib.Dec.{lit<}
 use lib.IntN.{ℤ}
-use Rattle.refusal.specs.declared.Refusal.{Refusal}
-use Rattle.refusal.specs.Numbers.{numberOf}
+use Rattle.refusal.specs.RefusalNumbers.{numberOf}
 use Rattle.refusal.specs.Tests.{Test}
+use Rattle.refusal.specs.declared.Refusal.{Refusal}
 use Rattle.refusal.proofs.Decisions.{Numbered, Refusable, handed-on, passed-on, is-answer, first-refuse, first-pass}
 use Rattle.calendar.specs.Time as Time
 use Rattle.calendar.specs.Time.{InstantValues, instant, epochsOf, accepted, instantTests, instantOf}
 use Rattle.calendar.specs.declared.Epochs.{Epochs}
 use Rattle.site.specs.Site as Site
-use Rattle.site.specs.Site.{LocatedValues, place, siteTests, located}
+use Rattle.site.specs.Site.{LocatedValues, position, siteTests, positionOf}
 use Rattle.site.specs.declared.Site.{Site}
-use Rattle.site.specs.declared.Place.{Place}
+use Rattle.site.specs.declared.Position.{Position}
 use Rattle.horizon.specs.Horizon as Horizon
 use Rattle.horizon.specs.Horizon.{View, SightValues, seen, sightTests, sightOf}
+use Rattle.card.specs.Confirmed.{ConfirmedValues, numbersIn, cardTests, given, withheld, confirmedNumbers}
 use Rattle.card.specs.declared.Card.{Card}
-use Rattle.card.specs.Shot.{ConfirmedValues, numbersIn, cardTests, given, withheld, confirmedNumbers}
-use Rattle.fieldbook.specs.Shot.{Values, refused, InTurn, answered, numbersOf, testsFrom, testsAt, answerFrom, tests, answerOf, shotOf, cardNumbers, cardShot}
-use Rattle.fieldbook.specs.Parts.{viewShot, shotFrom, shotAt}
+use Rattle.fieldbook.specs.Shot.{ShotValues, refused, ShotReduced, answered, numbersOf, testsFrom, testsAt, answerFrom, tests, answerOf, shot, cardNumbers, shotFromCard}
+use Rattle.fieldbook.specs.Parts.{sightedShot, shotFrom, shotAt}
 use Rattle.fieldbook.specs.declared.Numbers.{Numbers}
 
 -- a refusal's angles
-pub refused-in-turn : (k : ℕ) → InTurn (refused k)
-refused-in-turn k = (lit< tt, lit< tt, lit< tt, lit< tt)
+pub refused-reduced : (k : ℕ) → ShotReduced (refused k)
+refused-reduced k = (lit< tt, lit< tt, lit< tt, lit< tt)
 
 -- ---- by the answer of a sight
 abbrev sights : Refusable SightValues
@@ -38,14 +37,14 @@ module _ (v : View) (s : ℕ) where
   unfolding seen
   seen-number = refl
 
-  pub refused-sight : (r : Refusal) → Horizon.refused (numberOf r) ≡ sightOf v → refused (numberOf r) ≡ viewShot v s
+  pub refused-sight : (r : Refusal) → Horizon.refused (numberOf r) ≡ sightOf v → refused (numberOf r) ≡ sightedShot v s
   unfolding sightOf
   refused-sight r e = handed-on sights (seen v) seen-number (answered v s) refused (sightTests v) r (ap (λ (a : SightValues). a .refusal) e)
 
-  abbrev withLongitude : SightValues → Values
-  withLongitude a = record { refusal = 0; azimuth = a .azimuth; zenith = a .zenith; hour-angle = a .hour; longitude = s }
+  abbrev withLongitude : SightValues → ShotValues
+  withLongitude a = record { refusal = 0; azimuth = a .azimuth; zenithDistance = a .zenithDistance; hourAngle = a .hourAngle; longitude = s }
 
-  pub answered-sight : (a : SightValues) → 0 ≡ a .refusal → a ≡ sightOf v → withLongitude a ≡ viewShot v s
+  pub answered-sight : (a : SightValues) → 0 ≡ a .refusal → a ≡ sightOf v → withLongitude a ≡ sightedShot v s
   unfolding sightOf
   answered-sight a z e =
       let ts = sightTests v in
@@ -58,16 +57,22 @@ abbrev sites : Refusable LocatedValues
 sites = record { number = λ v. v .refusal; refused = Site.refused; gives = λ k. refl }
 
 module _ (es : Epochs) (site : Site) (body : ℤ) where
-  pub refused-site : (r : Refusal) → Site.refused (numberOf r) ≡ located site → refused (numberOf r) ≡ shotAt es site body
-  unfolding located shotAt
-  refused-site r e =
-      first-refuse sites (Site.accepted (place site)) refl (siteTests site) (testsFrom es (place site) body) (answerFrom es (place site) body) refused r (ap (λ (a : LocatedValues). a .refusal) e)
+  abbrev located : LocatedValues
+  located = Site.accepted (position site)
 
-  pub accepted-site : (p : Place) → Site.accepted p ≡ located site → shotFrom es p body ≡ shotAt es site body
-  unfolding located shotAt shotFrom
+  abbrev rest : List Test
+  rest = testsFrom es (position site) body
+
+  pub refused-site : (r : Refusal) → Site.refused (numberOf r) ≡ positionOf site → refused (numberOf r) ≡ shotAt es site body
+  unfolding positionOf shotAt
+  refused-site r e =
+      first-refuse sites located refl (siteTests site) rest (answerFrom es (position site) body) refused r (ap (λ (a : LocatedValues). a .refusal) e)
+
+  pub accepted-site : (p : Position) → Site.accepted p ≡ positionOf site → shotFrom es p body ≡ shotAt es site body
+  unfolding positionOf shotAt shotFrom
   accepted-site p e =
-      let all : Numbered (siteTests site) = (omega arith, (omega arith, tt)) in
-      let h = first-pass sites (Site.accepted (place site)) refl (siteTests site) (testsFrom es (place site) body) (answerFrom es (place site) body) refused all (Site.accepted p) refl e in
+      let all : Numbered (siteTests site) = (omega arith, tt) in
+      let h = first-pass sites located refl (siteTests site) rest (answerFrom es (position site) body) refused all (Site.accepted p) refl e in
       ap (λ (a : LocatedValues). shotFrom es (record { latitude = a .latitude; longitude = a .longitude }) body) (h .0) ∙ h .1
 
 -- ---- by the calendar's answer
@@ -81,12 +86,12 @@ module _ (x : Numbers) where
   abbrev after : List Test
   after = testsAt found (x .site) (x .body)
 
-  pub refused-instant : (r : Refusal) → Time.refused (numberOf r) ≡ instantOf (x .time) → refused (numberOf r) ≡ shotOf x
-  unfolding instantOf shotOf
+  pub refused-instant : (r : Refusal) → Time.refused (numberOf r) ≡ instantOf (x .time) → refused (numberOf r) ≡ shot x
+  unfolding instantOf shot
   refused-instant r e = first-refuse instants (accepted found) refl (instantTests (x .time)) after (answerOf x) refused r (ap (λ (a : InstantValues). a .refusal) e)
 
-  pub accepted-instant : (es : Epochs) → accepted es ≡ instantOf (x .time) → shotAt es (x .site) (x .body) ≡ shotOf x
-  unfolding instantOf shotOf shotAt
+  pub accepted-instant : (es : Epochs) → accepted es ≡ instantOf (x .time) → shotAt es (x .site) (x .body) ≡ shot x
+  unfolding instantOf shot shotAt
   accepted-instant es e =
       let all : Numbered (instantTests (x .time)) = (omega arith, (omega arith, (omega arith, tt))) in
       let h = first-pass instants (accepted found) refl (instantTests (x .time)) after (answerOf x) refused all (accepted es) refl e in
@@ -100,13 +105,13 @@ module _ (c : Card) where
   abbrev x : Numbers
   x = cardNumbers c
 
-  pub refused-card : (r : Refusal) → numberOf r ≡ confirmedNumbers c .refusal → refused (numberOf r) ≡ cardShot c
-  unfolding cardShot
+  pub refused-card : (r : Refusal) → numberOf r ≡ confirmedNumbers c .refusal → refused (numberOf r) ≡ shotFromCard c
+  unfolding shotFromCard
   refused-card r e = first-refuse cards (given (numbersIn c)) refl (cardTests c) (tests x) (answerOf x) refused r e
 
-  pub confirmed-card : (numbers : List ℤ) → given numbers ≡ confirmedNumbers c → shotOf (numbersOf numbers) ≡ cardShot c
-  unfolding cardShot shotOf
+  pub confirmed-card : (numbers : List ℤ) → given numbers ≡ confirmedNumbers c → shot (numbersOf numbers) ≡ shotFromCard c
+  unfolding shotFromCard shot
   confirmed-card numbers e =
       let all : Numbered (cardTests c) = (omega arith, tt) in
       let h = first-pass cards (given (numbersIn c)) refl (cardTests c) (tests x) (answerOf x) refused all (given numbers) refl e in
-      ap (λ (a : ConfirmedValues). shotOf (numbersOf (a .numbers))) (h .0) ∙ h .1
+      ap (λ (a : ConfirmedValues). shot (numbersOf (a .numbers))) (h .0) ∙ h .1

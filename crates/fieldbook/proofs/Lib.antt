@@ -1,3 +1,3 @@
 -- What the proofs of several functions use.
-pub mod Skies
+pub mod Bodies
 pub mod Decided

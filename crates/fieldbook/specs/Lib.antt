@@ -1,4 +1,4 @@
 -- The shot, which the promises cite; then what its parts owe.
 pub mod Shot
 pub mod Parts
-pub mod Sky
+pub mod Astrometry

@@ -1,3 +1,3 @@
 pub mod Nutation
 pub mod Sidereal
-pub mod Promise
+pub mod FrameContract

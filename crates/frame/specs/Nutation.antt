@@ -1,45 +1,45 @@
--- Document 01, "The Sun": nutation, by the Explanatory Supplement of 1961 (source 000, Table 3), in seconds of arc, and the obliquity.
--- The minus of −(17.2327 + 0.01737T) goes to both coefficients, and each is then rounded and floored with its sign.
--- Assumes nothing.
+-- Document 01, "The Sun" (RULES.md, "The Sun"): nutation by the Explanatory Supplement of 1961 (source 000, Table 3), printed in seconds of arc, and
+-- the obliquity of the ecliptic. The minus of −(17.2327 + 0.01737T) goes to both coefficients; each is then rounded, and floored, with its sign.
 use mathlib.Core.List.{List, [], _∷_}
 use lib.IntN.{ℤ, pos, _+ℤ_}
 use lib.ListN.{getD}
 use Rattle.exact.specs.Decimal.{plus, minus, arcSeconds}
-use Rattle.arguments.specs.Table.{L, Ms, Ω, Lm, obliquity}
+use Rattle.arguments.specs.PrintedArguments.{L, Ms, Ω, Lm, ε₀}
 use Rattle.series.specs.Term.{Term}
 use Rattle.series.specs.Sum.{tableSum}
-use Rattle.series.specs.Written.{term, sine, cosine, added, none}
+use Rattle.series.specs.Notation.{term, sine, cosine, added, none}
 
 -- the terms of Δψ, sines
-abbrev pub longitudeTerms : List Term
-longitudeTerms =
-    term (arcSeconds (minus 172327 4)) (arcSeconds (minus 1737 5)) (pos 0) (pos 0) (added 1 Ω) none none
-    ∷ sine (plus 2088 4) (added 2 Ω) none none
-    ∷ sine (minus 12729 4) (added 2 L) none none
-    ∷ sine (minus 2037 4) (added 2 Lm) none none
-    ∷ sine (plus 1261 4) (added 1 Ms) none none
+abbrev pub dpsiTerms : List Term
+dpsiTerms =
+    term (arcSeconds (minus 172_327 4)) (arcSeconds (minus 1_737 5)) (pos 0) (pos 0) (added 1 Ω) none none
+    ∷ sine (plus 2_088 4) (added 2 Ω) none none
+    ∷ sine (minus 12_729 4) (added 2 L) none none
+    ∷ sine (minus 2_037 4) (added 2 Lm) none none
+    ∷ sine (plus 1_261 4) (added 1 Ms) none none
     ∷ []
 
 -- the terms of Δε, cosines
-abbrev pub obliquityTerms : List Term
-obliquityTerms =
-    cosine (plus 92100 4) (plus 0 0) (added 1 Ω) none none
-    ∷ cosine (plus 5522 4) (plus 0 0) (added 2 L) none none
+abbrev pub depsTerms : List Term
+depsTerms =
+    cosine (plus 92_100 4) (plus 0 0) (added 1 Ω) none none
+    ∷ cosine (plus 5_522 4) (plus 0 0) (added 2 L) none none
     ∷ cosine (minus 904 4) (plus 0 0) (added 2 Ω) none none
     ∷ cosine (plus 884 4) (plus 0 0) (added 2 Lm) none none
     ∷ []
 
--- 01's Δψ and Δε, of the arguments of an epoch and its q
-unfoldable pub deltaPsi : List ℤ → ℤ → ℤ
-deltaPsi arguments q = tableSum arguments q longitudeTerms
+-- Δψ, the nutation in longitude, in units, of the arguments of an epoch and its q
+unfoldable pub dpsi : List ℤ → ℤ → ℤ
+dpsi arguments q = tableSum arguments q dpsiTerms
 
-unfoldable pub deltaEpsilon : List ℤ → ℤ → ℤ
-deltaEpsilon arguments q = tableSum arguments q obliquityTerms
+-- Δε, the nutation in obliquity
+unfoldable pub deps : List ℤ → ℤ → ℤ
+deps arguments q = tableSum arguments q depsTerms
 
--- the mean obliquity, the argument of that name
-unfoldable pub meanObliquity : List ℤ → ℤ
-meanObliquity arguments = getD arguments obliquity (pos 0)
+-- ε₀, the mean obliquity, which is one of the arguments
+unfoldable pub epsilon0 : List ℤ → ℤ
+epsilon0 arguments = getD arguments ε₀ (pos 0)
 
--- the true obliquity
+-- ε, the true obliquity
 unfoldable pub epsilon : List ℤ → ℤ → ℤ
-epsilon arguments q = meanObliquity arguments +ℤ deltaEpsilon arguments q
+epsilon arguments q = epsilon0 arguments +ℤ deps arguments q

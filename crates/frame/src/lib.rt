@@ -1,4 +1,4 @@
-// The frame of the date: nutation, the obliquity of the ecliptic, Greenwich sidereal time. Document 01, "The Sun" and "Time".
+// The frame of the date: nutation, the obliquity of the ecliptic ("The Sun" in document 01), Greenwich sidereal time ("Time").
 mod tables;
 
 use epoch::Epoch;
@@ -6,17 +6,18 @@ use sine::SineTable;
 ghost use mathlib.Core.Path.{_≡_};
 ghost use Prim.Native.Nat.{_≤_, _<_, _^_};
 ghost use lib.IntN.{natAbs};
-ghost use Rattle.exact.specs.Angle.{turn};
+ghost use Rattle.exact.specs.Reduction.{turn};
 ghost use Rattle.sine.specs.Sine.{entries};
 ghost use Rattle.epoch.specs.Sizes.{InSpan};
 ghost use Rattle.arguments.specs.Sizes.{IsArguments};
 ghost use Rattle.frame.specs.Sidereal.{equinoxes, siderealTime};
-ghost use Rattle.frame.specs.Promise.{IsFrame};
+ghost use Rattle.frame.specs.FrameContract.{IsFrame};
 
-// The orientation of the equator at an epoch, in units: the mean obliquity, the nutation in longitude Δψ, the true obliquity ε.
+// The orientation of the equator at an epoch, in units: ε₀, the mean obliquity; Δψ, the nutation in longitude; ε, the true obliquity, which is
+// ε₀ with Δε, the nutation in obliquity.
 pub struct Frame {
-    pub obliquity: i64,
-    pub nutation: i64,
+    pub epsilon0: i64,
+    pub dpsi: i64,
     pub epsilon: i64,
 }
 
@@ -25,46 +26,44 @@ pub fn frame_of(t: &SineTable, arguments: &[i64], e: Epoch) -> Frame
     requires { ⌜ (now t ≡ entries) × IsArguments (now arguments) × InSpan e ⌝ }
     ensures { λ r. ⌜ IsFrame (now (arguments .entry)) (e .q) r ⌝ }
 {
-    let obliquity = arguments[arguments::OBLIQUITY];
-    let nutation = series::rounded_sum(
+    let epsilon0 = arguments[arguments::EPSILON0];
+    let dpsi = series::rounded_sum(
         t,
-        &tables::LONGITUDE_VARYING,
-        &tables::LONGITUDE_GROUPS,
-        &tables::LONGITUDE_ROWS,
+        &tables::DPSI_VARYING,
+        &tables::DPSI_GROUPS,
+        &tables::DPSI_ROWS,
         arguments,
         e.q,
     );
-    let change = series::rounded_sum(
+    let deps = series::rounded_sum(
         t,
-        &tables::OBLIQUITY_VARYING,
-        &tables::OBLIQUITY_GROUPS,
-        &tables::OBLIQUITY_ROWS,
+        &tables::DEPS_VARYING,
+        &tables::DEPS_GROUPS,
+        &tables::DEPS_ROWS,
         arguments,
         e.q,
     );
     Frame {
-        obliquity: obliquity,
-        nutation: nutation,
-        epsilon: obliquity + change,
+        epsilon0: epsilon0,
+        dpsi: dpsi,
+        epsilon: epsilon0 + deps,
     }
 }
 
 // The equation of the equinoxes: Δψ·Cos(ε), in units.
-fn equinoxes(t: &SineTable, nutation: i64, epsilon: i64) -> i64
-    requires { ⌜ (now t ≡ entries) × (natAbs nutation ≤ 2 ^ 20) × (natAbs epsilon < 2 ^ 35) ⌝ }
-    ensures { λ r. ⌜ (r ≡ equinoxes nutation epsilon) × (natAbs r ≤ 2 ^ 20) ⌝ }
+fn equinoxes(t: &SineTable, dpsi: i64, epsilon: i64) -> i64
+    requires { ⌜ (now t ≡ entries) × (natAbs dpsi ≤ 2 ^ 20) × (natAbs epsilon < 2 ^ 35) ⌝ }
+    ensures { λ r. ⌜ (r ≡ equinoxes dpsi epsilon) × (natAbs r ≤ 2 ^ 20) ⌝ }
 {
-    series::rounded(nutation * sine::cos(t, exact::reduced_bounded(epsilon)))
+    series::rounded(dpsi * sine::cos(t, exact::reduced_bounded(epsilon)))
 }
 
-// Greenwich sidereal time at an epoch of universal time, with the equation of the equinoxes. In a millisecond the Earth turns by 150 units,
-// and N counts from noon, the day from midnight.
-pub fn sidereal_time(t: &SineTable, universal: Epoch, nutation: i64, epsilon: i64) -> u64
-    requires { ⌜ (now t ≡ entries) × InSpan universal × (natAbs nutation ≤ 2 ^ 20) × (natAbs epsilon < 2 ^ 35) ⌝ }
-    ensures { λ r. ⌜ (r ≡ siderealTime universal nutation epsilon) × (r < turn) ⌝ }
+// Greenwich sidereal time at an epoch of universal time, with the equation of the equinoxes. In a millisecond the Earth rotates by 150 units;
+// the day begins at midnight, and N counts from noon.
+pub fn sidereal_time(t: &SineTable, universal: Epoch, dpsi: i64, epsilon: i64) -> u64
+    requires { ⌜ (now t ≡ entries) × InSpan universal × (natAbs dpsi ≤ 2 ^ 20) × (natAbs epsilon < 2 ^ 35) ⌝ }
+    ensures { λ r. ⌜ (r ≡ siderealTime universal dpsi epsilon) × (r < turn) ⌝ }
 {
-    let beyond = arguments::argument(tables::SIDEREAL, universal) as i64;
-    exact::reduced_bounded(
-        150 * (universal.n + 43_200_000) + beyond + equinoxes(t, nutation, epsilon),
-    )
+    let excess = arguments::argument(tables::SIDEREAL, universal) as i64;
+    exact::reduced_bounded(150 * (universal.n + 43_200_000) + excess + equinoxes(t, dpsi, epsilon))
 }

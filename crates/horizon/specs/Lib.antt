@@ -1,1 +1,2 @@
 pub mod Horizon
+pub mod Sizes

@@ -1,5 +1,5 @@
 -- What the proofs of several functions use.
 pub mod Appending
-pub mod Scans
+pub mod DigitScan
 pub mod Numerals
 pub mod Words

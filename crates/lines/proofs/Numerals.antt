@@ -1,16 +1,16 @@
--- A numeral by its first byte, and the signed numbers that it makes. Assumes nothing.
-use Prim.Native.Nat.{ℕ, zero, suc, _^_, _<_}
-use native.Mathlib.Omega.{arith}
+-- A numeral by its first byte, and the signed numbers that it makes.
 use mathlib.Core.Path.{_≡_, refl}
 use mathlib.Core.List.{List, [], _∷_}
-use borrow.Author.Tests.{eq-eqb, ne-eqb}
+use Prim.Native.Nat.{ℕ, zero, suc, _^_, _<_}
+use native.Mathlib.Omega.{arith}
 use lib.IntN.{pos, negℤ, _-ℤ_, +ℤ-idl}
 use lib.ListN.{length, drop, getD}
 use mir.Facts.{toZ-pos}
 use mir.Syntax.{w64}
 use mir.Val.{SFits, toZ}
+use borrow.Author.Tests.{eq-eqb, ne-eqb}
+use Rattle.lines.specs.Numerals.{digitsOf, plus, minus, numeralOf}
 use Rattle.lines.specs.declared.Numeral.the-variants.{NoNumber}
-use Rattle.lines.specs.Numbers.{digitsOf, plus, minus, numeralOf}
 
 module _ (most : ℕ) where
   pub numeral-none : (l : List ℕ) → length l ≡ 0 → NoNumber ≡ numeralOf most l

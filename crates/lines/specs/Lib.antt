@@ -1,3 +1,4 @@
 -- The definitions that the contracts and the theorems cite.
-pub mod Numbers
-pub mod Writing
+pub mod Numerals
+pub mod Appending
+pub mod Sizes

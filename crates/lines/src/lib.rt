@@ -3,8 +3,9 @@ ghost use mathlib.Core.Path.{_≡_};
 ghost use mathlib.Core.List.{[]};
 ghost use Prim.Native.Nat.{_+_, _%_, _^_, _≤_};
 ghost use lib.ListN.{length};
-ghost use Rattle.lines.specs.Numbers.{indexOf, digitsOf, Below, numeralOf, numbersOf, listed};
-ghost use Rattle.lines.specs.Writing.{decimalText, Appends};
+ghost use Rattle.lines.specs.Numerals.{digitsOf, numeralOf, numbersOf, listed};
+ghost use Rattle.lines.specs.Sizes.{Below};
+ghost use Rattle.lines.specs.Appending.{decimalText, Appends};
 
 // The most numbers that a line of any program has.
 const ROW: usize = 10;
@@ -34,20 +35,6 @@ fn wide(b: u8) -> u64
     ensures { λ r. ⌜ r ≡ b ⌝ }
 {
     b as u64
-}
-
-// Where a byte first stands, or the length.
-pub fn find(s: &[u8], byte: u8) -> usize
-    ensures { λ r. ⌜ r ≡ indexOf byte (now (s .entry)) ⌝ }
-{
-    let mut i = 0;
-    while i < s.len() {
-        if s[i] == byte {
-            return i;
-        }
-        i += 1;
-    }
-    i
 }
 
 // 1 to `most` digits.
@@ -115,7 +102,7 @@ pub fn numbers_of(s: &[u8], most: usize) -> Row
     let mut row = empty_row();
     let mut from = 0;
     while from <= s.len() {
-        let k = from + find(&s[from..], b' ');
+        let k = bytes::scan::find(s, from, s.len(), b' ');
         let Numeral::Number(n) = numeral_of(&s[from..k], most) else {
             return empty_row();
         };
@@ -133,40 +120,29 @@ pub fn numbers_of(s: &[u8], most: usize) -> Row
     row
 }
 
-// The last decimal digit of n, as a byte.
-fn last_digit(n: u64) -> u8
-    ensures { λ r. ⌜ r ≡ 48 + n % 10 ⌝ }
-{
-    b'0' + (n % 10) as u8
-}
-
 // Appends bytes, and returns where they end.
-pub fn append_bytes(out: &mut [u8], at: usize, bytes: &[u8]) -> usize
-    requires { ⌜ at + length (now bytes) ≤ length (now out) ⌝ }
-    ensures { λ r. ⌜ Appends (now (out .entry)) at (now (bytes .entry)) (now (out .exit)) r ⌝ }
+pub fn append_bytes(out: &mut [u8], place: usize, text: &[u8]) -> usize
+    requires { ⌜ place + length (now text) ≤ length (now out) ⌝ }
+    ensures { λ r. ⌜ Appends (now (out .entry)) place (now (text .entry)) (now (out .exit)) r ⌝ }
 {
-    let mut i = 0;
-    while i < bytes.len() {
-        out[at + i] = bytes[i];
-        i += 1;
-    }
-    at + i
+    let n = bytes::copy(text, &mut out[place..]);
+    place + n
 }
 
 // Appends a number in plain decimal, and returns where it ends. The digits are written into an array first, from the last one on.
-pub fn append_decimal(out: &mut [u8], at: usize, n: u64) -> usize
-    requires { ⌜ at + length (decimalText n) ≤ length (now out) ⌝ }
-    ensures { λ r. ⌜ Appends (now (out .entry)) at (decimalText n) (now (out .exit)) r ⌝ }
+pub fn append_decimal(out: &mut [u8], place: usize, n: u64) -> usize
+    requires { ⌜ place + length (decimalText n) ≤ length (now out) ⌝ }
+    ensures { λ r. ⌜ Appends (now (out .entry)) place (decimalText n) (now (out .exit)) r ⌝ }
 {
     let mut text = [0u8; DIGITS];
     let mut from = DIGITS;
     let mut m = n;
     while 10 <= m {
         from -= 1;
-        text[from] = last_digit(m);
+        text[from] = digits::last_digit(m);
         m = m / 10;
     }
     from -= 1;
-    text[from] = last_digit(m);
-    append_bytes(out, at, &text[from..])
+    text[from] = digits::last_digit(m);
+    append_bytes(out, place, &text[from..])
 }

@@ -1,34 +1,44 @@
--- Document 01, "Polaris": from the place of the catalogue to the apparent direction, by precession, nutation and aberration. Assumes nothing.
+-- Document 01, "Polaris" (RULES.md, "Polaris"): from the position in the catalogue to the apparent direction, by precession, nutation and aberration.
 use mathlib.Core.List.{List, [], _∷_}
 use Prim.Native.Nat.{ℕ}
 use lib.IntN.{ℤ, pos, negℤ, _+ℤ_, _*ℤ_}
-use Rattle.exact.specs.Division.{nearest}
+use Rattle.exact.specs.Division.{nearestDiv}
 use Rattle.sine.specs.Sine.{R, Sin, Cos}
-use Rattle.rotation.specs.Rotation.{turned, rotation1, rotation2, rotation3, sinOf, cosOf}
+use Rattle.rotation.specs.Rotation.{rotated, rotation1, rotation2, rotation3, sinOf, cosOf}
 use Rattle.epoch.specs.declared.Epoch.{Epoch}
-use Rattle.polaris.specs.Place.{tropicalMillionths, elementsOf, catalogue}
+use Rattle.polaris.specs.Elements.{tropicalMillionths, elementsOf}
 use Rattle.polaris.specs.declared.Elements.{Elements}
 
--- precession takes the first three turns, nutation the last three
+-- a·b over R, to nearest
+abbrev pub scaled : ℤ → ℤ → ℤ
+scaled a b = nearestDiv (a *ℤ b) R
+
+-- the direction of a right ascension α and a declination δ
+unfoldable pub catalogue : ℤ → ℤ → List ℤ
+catalogue α δ = scaled (cosOf δ) (cosOf α) ∷ scaled (cosOf δ) (sinOf α) ∷ sinOf δ ∷ []
+
+-- precession is the first three rotations, nutation the last three
 unfoldable pub precessed : ℤ → ℤ → ℤ → List ℤ → List ℤ
-precessed ζ θ z d = turned (rotation3 (negℤ z)) (turned (rotation2 θ) (turned (rotation3 (negℤ ζ)) d))
+precessed ζ θ z d = rotated (rotation3 (negℤ z)) (rotated (rotation2 θ) (rotated (rotation3 (negℤ ζ)) d))
 
 unfoldable pub nutated : ℤ → ℤ → ℤ → List ℤ → List ℤ
-nutated obliquity Δψ ε d = turned (rotation1 (negℤ ε)) (turned (rotation3 (negℤ Δψ)) (turned (rotation1 obliquity) d))
+nutated ε₀ Δψ ε d = rotated (rotation1 (negℤ ε)) (rotated (rotation3 (negℤ Δψ)) (rotated (rotation1 ε₀) d))
 
-unfoldable pub placeOfDate : Elements → ℤ → ℤ → ℤ → List ℤ
-placeOfDate k obliquity Δψ ε =
-    nutated obliquity Δψ ε (precessed (k .zeta) (k .theta) (k .z) (catalogue (k .alpha) (k .delta)))
+-- the direction of the star itself, of the mean obliquity ε₀, the nutation in longitude Δψ and the true obliquity ε
+unfoldable pub trueDirection : Elements → ℤ → ℤ → ℤ → List ℤ
+trueDirection k ε₀ Δψ ε =
+    nutated ε₀ Δψ ε (precessed (k .zeta) (k .theta) (k .z) (catalogue (k .alpha) (k .delta)))
 
--- what aberration adds: 99,367 parts in R of a direction, each quotient to nearest with its sign inside
-abbrev pub aberrationOf : ℤ → ℤ
-aberrationOf z = nearest (pos 99_367 *ℤ z) R
+-- the constant of aberration, 20.496″, in parts of R to the radian
+abbrev pub aberrationParts : ℕ
+aberrationParts = 99_367
 
+-- what aberration adds: so many parts of each number, every quotient to nearest with the minus inside
 unfoldable pub aberration : ℤ → ℕ → List ℤ
 aberration ε g =
-    aberrationOf (Sin g)
-    ∷ aberrationOf (nearest (negℤ (Cos g) *ℤ cosOf ε) R)
-    ∷ aberrationOf (nearest (negℤ (Cos g) *ℤ sinOf ε) R)
+    scaled (pos aberrationParts) (Sin g)
+    ∷ scaled (pos aberrationParts) (scaled (negℤ (Cos g)) (cosOf ε))
+    ∷ scaled (pos aberrationParts) (scaled (negℤ (Cos g)) (sinOf ε))
     ∷ []
 
 -- the sum of two directions
@@ -37,6 +47,6 @@ plus [] b = []
 plus (x ∷ a) [] = []
 plus (x ∷ a) (y ∷ b) = (x +ℤ y) ∷ plus a b
 
--- the apparent direction of Polaris, of the mean obliquity, Δψ, ε and g
+-- the apparent direction of Polaris, where g is the Sun's longitude by the centre terms alone
 unfoldable pub direction : Epoch → ℤ → ℤ → ℤ → ℕ → List ℤ
-direction e obliquity Δψ ε g = plus (placeOfDate (elementsOf (tropicalMillionths e)) obliquity Δψ ε) (aberration ε g)
+direction e ε₀ Δψ ε g = plus (trueDirection (elementsOf (tropicalMillionths e)) ε₀ Δψ ε) (aberration ε g)

@@ -1,4 +1,4 @@
-pub mod Rows
-pub mod Place
+pub mod PrintedElements
+pub mod Elements
 pub mod Apparent
 pub mod Sizes

@@ -1,43 +1,35 @@
-// The direction of Polaris: document 01, "Polaris". The place of the FK4 with proper motion, precession, nutation and aberration. Angles are in
-// units of 0.0001 second of arc.
+// The direction of Polaris: document 01, "Polaris". The position in the FK4 with proper motion, precession, nutation and aberration. Angles are
+// in units of 0.0001″; ε₀ is the mean obliquity, Δψ the nutation in longitude, ε the true obliquity.
 mod tables;
 
-ghost use mathlib.Core.Path.{_≡_};
-ghost use Prim.Native.Nat.{_+_, _*_, _≤_, _<_, _^_};
-ghost use lib.IntN.{natAbs, negℤ, _*ℤ_};
-ghost use Rattle.exact.specs.Angle.{turn};
-ghost use Rattle.exact.specs.Division.{nearest};
-ghost use Rattle.sine.specs.Sine.{R, entries};
-ghost use Rattle.sine.specs.Promises.{circleMost};
-ghost use Rattle.rotation.specs.Rotation.{turned, rotation3};
-ghost use Rattle.rotation.specs.Length.{squaredLength, reach, growth, Bounded};
-ghost use Rattle.epoch.specs.Sizes.{InSpan};
-ghost use Rattle.secular.specs.Sizes.{largest};
-ghost use Rattle.polaris.specs.Place.{tropicalMillionths, elementsOf, catalogue};
-ghost use Rattle.polaris.specs.Apparent.{precessed, nutated, aberration, plus, placeOfDate, direction};
-ghost use Rattle.polaris.specs.Sizes.{Within, aberrationMost, directionMost};
 use epoch::Epoch;
 use rotation::Direction;
 use sine::SineTable;
+ghost use mathlib.Core.Path.{_≡_};
+ghost use Prim.Native.Nat.{_+_, _*_, _≤_, _<_, _^_};
+ghost use lib.IntN.{natAbs, negℤ};
+ghost use Rattle.exact.specs.Reduction.{turn};
+ghost use Rattle.secular.specs.Sizes.{mostMillionths};
+ghost use Rattle.sine.specs.Sine.{R, entries};
+ghost use Rattle.sine.specs.SineContract.{circleMost};
+ghost use Rattle.rotation.specs.Rotation.{rotated, rotation3};
+ghost use Rattle.rotation.specs.Length.{squaredLength, growth};
+ghost use Rattle.rotation.specs.Sizes.{reach, Bounded};
+ghost use Rattle.epoch.specs.Sizes.{InSpan};
+ghost use Rattle.polaris.specs.Elements.{tropicalMillionths, elementsOf};
+ghost use Rattle.polaris.specs.Apparent.{scaled, catalogue, precessed, nutated, trueDirection, aberrationParts, aberration, plus, direction};
+ghost use Rattle.polaris.specs.Sizes.{ElementsSized, directionMost};
 
 // The epoch 1975.0, in milliseconds since 1900 January 0.5: Julian date 2442413.478 (001 section 3.2).
-const EPOCH: i64 = 2_366_796_499_200;
+const EPOCH_1975: i64 = 2_366_796_499_200;
 
 // A tropical century of 36524.2199 days, in milliseconds (001 section 3.2).
 const TROPICAL_CENTURY: i64 = 3_155_692_599_360;
 
-// The constant of aberration, 20.496″, in parts of 1,000,000,000 of a radian.
-const ABERRATION: i64 = 99_367;
+// The constant of aberration, 20.496″, in parts of R to the radian.
+const ABERRATION_PARTS: i64 = 99_367;
 
-// p, the millionths of a tropical century since 1975.0.
-pub fn tropical_millionths(e: Epoch) -> i64
-    requires { ⌜ InSpan e ⌝ }
-    ensures { λ r. ⌜ (r ≡ tropicalMillionths e) × (natAbs r ≤ largest) ⌝ }
-{
-    exact::floor_div(1_000_000 * (e.n - EPOCH), TROPICAL_CENTURY)
-}
-
-// The angles that change with p: right ascension and declination with their proper motion, and precession's ζ, θ and z.
+// The angles that change with p, in units: right ascension and declination with their proper motion, and precession's ζ, θ and z.
 pub struct Elements {
     pub alpha: i64,
     pub delta: i64,
@@ -46,9 +38,18 @@ pub struct Elements {
     pub z: i64,
 }
 
+// p, the millionths of a tropical century since 1975.0.
+pub fn tropical_millionths(e: Epoch) -> i64
+    requires { ⌜ InSpan e ⌝ }
+    ensures { λ r. ⌜ (r ≡ tropicalMillionths e) × (natAbs r ≤ mostMillionths) ⌝ }
+{
+    exact::floor_div(1_000_000 * (e.n - EPOCH_1975), TROPICAL_CENTURY)
+}
+
+// The angles at p.
 pub fn elements_of(p: i64) -> Elements
-    requires { ⌜ natAbs p ≤ largest ⌝ }
-    ensures { λ r. ⌜ (r ≡ elementsOf p) × Within r ⌝ }
+    requires { ⌜ natAbs p ≤ mostMillionths ⌝ }
+    ensures { λ r. ⌜ (r ≡ elementsOf p) × ElementsSized r ⌝ }
 {
     let zeta = secular::value(tables::ZETA, p);
     Elements {
@@ -60,106 +61,107 @@ pub fn elements_of(p: i64) -> Elements
     }
 }
 
-// d turned by R3(−a).
-fn turn_back(t: &SineTable, a: i64, d: Direction) -> Direction
+// d rotated by R3(−a).
+fn rotated_back(t: &SineTable, a: i64, d: Direction) -> Direction
     requires { ⌜ (now t ≡ entries) × (natAbs a < 2 ^ 40) × (squaredLength d ≤ reach) ⌝ }
-    ensures { λ r. ⌜ (r ≡ turned (rotation3 (negℤ a)) d) × (squaredLength r ≤ squaredLength d + growth) ⌝ }
+    ensures { λ r. ⌜ (r ≡ rotated (rotation3 (negℤ a)) d) × (squaredLength r ≤ squaredLength d + growth) ⌝ }
 {
-    rotation::apply(rotation::about_z(t, -a), d)
+    rotation::rotated(rotation::rotation3(t, -a), d)
 }
 
-// The direction of a right ascension and a declination: their meridian turned to the equinox.
+// The direction of a right ascension and a declination: that of the declination on the meridian of the equinox, rotated back by the right
+// ascension.
 pub fn catalogue(t: &SineTable, alpha: i64, delta: i64) -> Direction
     requires { ⌜ (now t ≡ entries) × (natAbs alpha < 2 ^ 40) × (natAbs delta < 2 ^ 40) ⌝ }
     ensures { λ r. ⌜ (r ≡ catalogue alpha delta) × (squaredLength r ≤ circleMost + growth) ⌝ }
 {
     let d = exact::reduced_bounded(delta);
-    turn_back(t, alpha, [sine::cos(t, d), 0, sine::sin(t, d)])
+    rotated_back(t, alpha, [sine::cos(t, d), 0, sine::sin(t, d)])
 }
 
 // Precession, from the equinox of 1975.0 to that of the date.
-fn precess(t: &SineTable, zeta: i64, theta: i64, z: i64, d: Direction) -> Direction
+fn precessed(t: &SineTable, zeta: i64, theta: i64, z: i64, d: Direction) -> Direction
     requires { ⌜ (now t ≡ entries) × (natAbs zeta < 2 ^ 40) × (natAbs theta < 2 ^ 40) × (natAbs z < 2 ^ 40) × (squaredLength d + 2 * growth ≤ reach) ⌝ }
     ensures { λ r. ⌜ (r ≡ precessed zeta theta z d) × (squaredLength r ≤ squaredLength d + 3 * growth) ⌝ }
 {
-    let a = rotation::apply(rotation::about_y(t, theta), turn_back(t, zeta, d));
-    turn_back(t, z, a)
+    let a = rotation::rotated(rotation::rotation2(t, theta), rotated_back(t, zeta, d));
+    rotated_back(t, z, a)
 }
 
 // Nutation, from the mean equinox of the date to the true one.
-fn nutate(t: &SineTable, obliquity: i64, nutation: i64, epsilon: i64, d: Direction) -> Direction
-    requires { ⌜ (now t ≡ entries) × (natAbs obliquity < 2 ^ 40) × (natAbs nutation < 2 ^ 40) × (natAbs epsilon < 2 ^ 40) × (squaredLength d + 2 * growth ≤ reach) ⌝ }
-    ensures { λ r. ⌜ (r ≡ nutated obliquity nutation epsilon d) × (squaredLength r ≤ squaredLength d + 3 * growth) ⌝ }
+fn nutated(t: &SineTable, epsilon0: i64, dpsi: i64, epsilon: i64, d: Direction) -> Direction
+    requires { ⌜ (now t ≡ entries) × (natAbs epsilon0 < 2 ^ 40) × (natAbs dpsi < 2 ^ 40) × (natAbs epsilon < 2 ^ 40) × (squaredLength d + 2 * growth ≤ reach) ⌝ }
+    ensures { λ r. ⌜ (r ≡ nutated epsilon0 dpsi epsilon d) × (squaredLength r ≤ squaredLength d + 3 * growth) ⌝ }
 {
-    let a = rotation::apply(rotation::about_x(t, obliquity), d);
-    rotation::apply(rotation::about_x(t, -epsilon), turn_back(t, nutation, a))
+    let a = rotation::rotated(rotation::rotation1(t, epsilon0), d);
+    rotation::rotated(rotation::rotation1(t, -epsilon), rotated_back(t, dpsi, a))
 }
 
-// The direction without aberration, by the mean obliquity, the nutation in longitude and the true obliquity.
-pub fn place_of_date(
+// The direction without aberration, of ε₀, Δψ and ε.
+pub fn true_direction(
     t: &SineTable,
     k: Elements,
-    obliquity: i64,
-    nutation: i64,
+    epsilon0: i64,
+    dpsi: i64,
     epsilon: i64,
 ) -> Direction
-    requires { ⌜ (now t ≡ entries) × Within k × (natAbs obliquity < 2 ^ 40) × (natAbs nutation < 2 ^ 40) × (natAbs epsilon < 2 ^ 40) ⌝ }
-    ensures { λ r. ⌜ (r ≡ placeOfDate k obliquity nutation epsilon) × (squaredLength r ≤ circleMost + 7 * growth) ⌝ }
+    requires { ⌜ (now t ≡ entries) × ElementsSized k × (natAbs epsilon0 < 2 ^ 40) × (natAbs dpsi < 2 ^ 40) × (natAbs epsilon < 2 ^ 40) ⌝ }
+    ensures { λ r. ⌜ (r ≡ trueDirection k epsilon0 dpsi epsilon) × (squaredLength r ≤ circleMost + 7 * growth) ⌝ }
 {
     let d = catalogue(t, k.alpha, k.delta);
-    nutate(
+    nutated(
         t,
-        obliquity,
-        nutation,
+        epsilon0,
+        dpsi,
         epsilon,
-        precess(t, k.zeta, k.theta, k.z, d),
+        precessed(t, k.zeta, k.theta, k.z, d),
     )
 }
 
-// a·b, over 1,000,000,000, to nearest.
-fn share(a: i64, b: i64) -> i64
+// a·b over R, to nearest.
+fn scaled(a: i64, b: i64) -> i64
     requires { ⌜ (natAbs a ≤ R) × (natAbs b ≤ R) ⌝ }
-    ensures { λ r. ⌜ (r ≡ nearest (a *ℤ b) R) × (natAbs r ≤ natAbs a) ⌝ }
+    ensures { λ r. ⌜ (r ≡ scaled a b) × (natAbs r ≤ natAbs a) ⌝ }
 {
-    exact::nearest_div(a * b, rotation::RADIUS)
+    exact::nearest_div(a * b, sine::RADIUS)
 }
 
 // What aberration adds, where g is the Sun's longitude by the centre terms alone, reduced.
 fn aberration(t: &SineTable, epsilon: i64, g: u64) -> Direction
     requires { ⌜ (now t ≡ entries) × (natAbs epsilon < 2 ^ 40) × (g < turn) ⌝ }
-    ensures { λ r. ⌜ (r ≡ aberration epsilon g) × Bounded aberrationMost r ⌝ }
+    ensures { λ r. ⌜ (r ≡ aberration epsilon g) × Bounded aberrationParts r ⌝ }
 {
     let e = exact::reduced_bounded(epsilon);
     let c = -sine::cos(t, g);
-    let x = share(ABERRATION, sine::sin(t, g));
-    let y = share(ABERRATION, share(c, sine::cos(t, e)));
-    let z = share(ABERRATION, share(c, sine::sin(t, e)));
+    let x = scaled(ABERRATION_PARTS, sine::sin(t, g));
+    let y = scaled(ABERRATION_PARTS, scaled(c, sine::cos(t, e)));
+    let z = scaled(ABERRATION_PARTS, scaled(c, sine::sin(t, e)));
     [x, y, z]
 }
 
 // The sum of a direction and of what aberration adds to it.
 fn plus(d: Direction, a: Direction) -> Direction
-    requires { ⌜ (squaredLength d ≤ reach) × Bounded aberrationMost a ⌝ }
+    requires { ⌜ (squaredLength d ≤ reach) × Bounded aberrationParts a ⌝ }
     ensures { λ r. ⌜ (r ≡ plus d a) × (squaredLength r ≤ squaredLength d + 9 * 10 ^ 14) ⌝ }
 {
     [d[0] + a[0], d[1] + a[1], d[2] + a[2]]
 }
 
-// The apparent direction of Polaris, by the mean obliquity, the nutation in longitude, the true obliquity and g.
+// The apparent direction of Polaris at an epoch, of ε₀, Δψ, ε and g.
 pub fn direction(
     t: &SineTable,
     e: Epoch,
-    obliquity: i64,
-    nutation: i64,
+    epsilon0: i64,
+    dpsi: i64,
     epsilon: i64,
     g: u64,
 ) -> Direction
-    requires { ⌜ (now t ≡ entries) × InSpan e × (natAbs obliquity < 2 ^ 40) × (natAbs nutation < 2 ^ 40) × (natAbs epsilon < 2 ^ 40) × (g < turn) ⌝ }
-    ensures { λ r. ⌜ (r ≡ direction e obliquity nutation epsilon g) × (squaredLength r ≤ directionMost) ⌝ }
+    requires { ⌜ (now t ≡ entries) × InSpan e × (natAbs epsilon0 < 2 ^ 40) × (natAbs dpsi < 2 ^ 40) × (natAbs epsilon < 2 ^ 40) × (g < turn) ⌝ }
+    ensures { λ r. ⌜ (r ≡ direction e epsilon0 dpsi epsilon g) × (squaredLength r ≤ directionMost) ⌝ }
 {
     let k = elements_of(tropical_millionths(e));
     plus(
-        place_of_date(t, k, obliquity, nutation, epsilon),
+        true_direction(t, k, epsilon0, dpsi, epsilon),
         aberration(t, epsilon, g),
     )
 }

@@ -1,14 +1,15 @@
--- Laws of `decided`: a list of tests in two parts, and a refusal that is handed on. Assumes nothing.
-use Prim.Native.Nat.{ℕ, _<_}
-use native.Mathlib.Omega.{arith}
+-- Laws of `decided`: a list of tests in two parts, and a refusal that is handed on.
 use mathlib.Core.Path.{_≡_, refl, sym, ap, _∙_}
 use mathlib.Core.Bool.{Bool, true, false, cond}
 use mathlib.Core.List.{List, [], _∷_, _++_}
-use Rattle.refusal.specs.declared.Refusal.{Refusal}
-use Rattle.refusal.specs.declared.Refusal.the-variants.{NotConfirmed, NoDate, NoTime, NoDut1, NoPlace, NoBody, BelowHorizon, NearZenith, NoField, EmptyField, NoRoom, NotRead, TooLarge, Malformed}
-use Rattle.refusal.specs.Numbers.{numberOf}
+use Prim.Native.Nat.{ℕ, _<_}
+use native.Mathlib.Omega.{arith}
+use Rattle.refusal.specs.RefusalNumbers.{numberOf}
 use Rattle.refusal.specs.Tests.{Test, decided}
+use Rattle.refusal.specs.declared.Refusal.{Refusal}
+use Rattle.refusal.specs.declared.Refusal.the-variants.{NotConfirmed, NoDate, NoTime, NoDut1, NoPosition, NoBody, BelowHorizon, NearZenith, NoField, EmptyField, NoRoom, NotRead, TooLarge, Malformed}
 
+-- ---- the tests and their numbers
 -- each test has a number, so that 0 is left for no refusal
 abbrev pub Numbered : List Test → Type 0
 Numbered [] = Unit {0}
@@ -40,7 +41,7 @@ number-above-zero NotConfirmed = omega arith
 number-above-zero NoDate = omega arith
 number-above-zero NoTime = omega arith
 number-above-zero NoDut1 = omega arith
-number-above-zero NoPlace = omega arith
+number-above-zero NoPosition = omega arith
 number-above-zero NoBody = omega arith
 number-above-zero BelowHorizon = omega arith
 number-above-zero NearZenith = omega arith
@@ -57,7 +58,8 @@ pub record Refusable (A : Type 0) : Type 0 where
   pub refused : ℕ → A
   pub gives : (k : ℕ) → number (refused k) ≡ k
 
--- TWO DECISIONS BY THE SAME TESTS: what came of the first, which may be a refusal, tells what comes of the second, of any kind
+-- ---- two decisions by the same tests
+-- what came of the first, which may be a refusal, tells what comes of the second, of any kind
 module _ {A B : Type 0} (K : Refusable A) (a : A) (none : K .number a ≡ 0) (b : B) (refused : ℕ → B) where
   refusal-by : (p : Bool) (n k : ℕ) (x : A) (y : B) → K .number (cond p x (K .refused n)) ≡ k → (K .number x ≡ k → refused k ≡ y) → refused k ≡ cond p y (refused n)
   refusal-by true n k x y e f = f e
@@ -85,7 +87,8 @@ pub is-answer : {A : Type 0} (K : Refusable A) (a : A) → K .number a ≡ 0 →
     → x ≡ a
 is-answer K a none ts all x z e = e ∙ sym (passed-on K a none a (K .refused) ts all (z ∙ ap (K .number) e))
 
--- TESTS THAT STAND FIRST IN A LONGER LIST: what they decided by themselves tells what the whole list decides
+-- ---- tests that stand first in a longer list
+-- what they decided by themselves tells what the whole list decides
 module _ {A B : Type 0} (K : Refusable A) (a : A) (none : K .number a ≡ 0) (ts us : List Test) (b : B) (refused : ℕ → B) where
   pub first-refuse : (r : Refusal) → numberOf r ≡ K .number (decided ts a (K .refused)) → refused (numberOf r) ≡ decided (ts ++ us) b refused
   first-refuse r e = handed-on K a none (decided us b refused) refused ts r e ∙ sym (decided-append ts us b refused)

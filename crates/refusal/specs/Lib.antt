@@ -1,3 +1,3 @@
 -- The definitions that the contracts of every crate cite.
-pub mod Numbers
+pub mod RefusalNumbers
 pub mod Tests

@@ -1,8 +1,8 @@
--- THE FIRST TEST THAT FAILS DECIDES. What a call asks of its input is one list of tests in the stated order, each with the number of its
--- refusal (document 01, "Refusal numbers"). Definitions; assumes nothing.
-use Prim.Native.Nat.{ℕ}
+-- Document 01, "Refusal numbers" (RULES.md, "Refusals"): the first test that fails decides. What a call asks of its input is one list of tests in the stated
+-- order, each with the number of its refusal.
 use mathlib.Core.Bool.{Bool, cond}
 use mathlib.Core.List.{List, [], _∷_}
+use Prim.Native.Nat.{ℕ}
 
 pub record Test : Type 0 where
   pub passes : Bool

@@ -1,7 +1,7 @@
 // The refusals of the whole book: document 01, "Refusal numbers".
 ghost use mathlib.Core.Path.{_≡_};
 ghost use Prim.Native.Nat.{_≤_};
-ghost use Rattle.refusal.specs.Numbers.{numberOf, largestNumber};
+ghost use Rattle.refusal.specs.RefusalNumbers.{numberOf, largestNumber};
 
 // Why a call is refused, in the order of document 01's numbers, 1 to 14.
 pub enum Refusal {
@@ -14,7 +14,7 @@ pub enum Refusal {
     // 4: DUT1 out of range.
     NoDut1,
     // 5: latitude or longitude out of range.
-    NoPlace,
+    NoPosition,
     // 6: neither the Sun nor Polaris.
     NoBody,
     // 7: the body is below the horizon.
@@ -50,7 +50,7 @@ pub fn number_of(refusal: Refusal) -> u64
         Refusal::NoDate => 2,
         Refusal::NoTime => 3,
         Refusal::NoDut1 => 4,
-        Refusal::NoPlace => 5,
+        Refusal::NoPosition => 5,
         Refusal::NoBody => 6,
         Refusal::BelowHorizon => 7,
         Refusal::NearZenith => 8,

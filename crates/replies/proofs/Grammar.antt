@@ -1,44 +1,47 @@
--- What a line asks, by the numbers of a row and by its first bytes. Assumes nothing.
-use Prim.Native.Nat.{ℕ, _<_, _≤_}
-use native.Mathlib.Omega.{arith}
+-- What a line asks, by the numbers of a row and by its first bytes.
 use mathlib.Core.Path.{_≡_, refl}
 use mathlib.Core.List.{List, [], _∷_}
-use borrow.Author.Tests.{eq-eqb, ne-eqb}
+use Prim.Native.Nat.{ℕ, _<_, _≤_}
+use native.Mathlib.Omega.{arith}
 use lib.IntN.{ℤ, pos}
 use lib.ListN.{length, take, drop, getD, length-take}
 use lib.Seq.{take-all, getD-take}
-use Rattle.lines.specs.Numbers.{numbersOf, rowLength}
+use borrow.Author.Tests.{eq-eqb, ne-eqb}
+use Rattle.exact.specs.Nth.{nth}
+use Rattle.card.specs.Fields.{fieldCount}
 use Rattle.fieldbook.specs.Shot as Book
-use Rattle.fieldbook.specs.Shot.{shotOf}
+use Rattle.fieldbook.specs.Shot.{shot}
+use Rattle.lines.specs.Numerals.{numbersOf, rowLength}
+use Rattle.replies.specs.Commands.{fieldCommand, letterCommand, sessionCommand}
+use Rattle.replies.specs.Answers.{refusalText, shotText, batchText}
 use Rattle.replies.specs.declared.Command.the-variants.{Hear, Shoot, Malformed}
-use Rattle.replies.specs.Commands.{nth, fieldCommand, spoken, sessionCommand}
-use Rattle.replies.specs.Answers.{refusalText, plainShotText, plainText}
+use Rattle.replies.specs.declared.Protocol.the-variants.{Batch}
 
 -- by the first n numbers of an array of ten
 module _ (a : List ℤ) (full : length a ≡ rowLength) (n : ℕ) where
   module _ (c : ℕ) (h : c ≡ 72) where
-    pub hears : n ≡ 2 → Hear (nth a 0) (nth a 1) ≡ spoken c (take n a)
+    pub hears : n ≡ 2 → Hear (nth a 0) (nth a 1) ≡ letterCommand c (take n a)
     hears e =
         let l = length-take n a in
         rw (eq-eqb c 72 h, eq-eqb (length (take n a)) 2 (omega arith), getD-take n a 0 (pos 0) (omega arith), getD-take n a 1 (pos 0) (omega arith))
 
-    pub hears-not : (n ≡ 2 → ⊥) → Malformed ≡ spoken c (take n a)
+    pub hears-not : (n ≡ 2 → ⊥) → Malformed ≡ letterCommand c (take n a)
     hears-not d = let l = length-take n a in rw (eq-eqb c 72 h, ne-eqb (length (take n a)) 2 λ e. d (omega arith))
 
   module _ (c : ℕ) (h : c ≡ 72 → ⊥) where
-    pub names-field : n ≡ 1 → fieldCommand c (nth a 0) ≡ spoken c (take n a)
+    pub names-field : n ≡ 1 → fieldCommand c (nth a 0) ≡ letterCommand c (take n a)
     names-field e =
         let l = length-take n a in
         rw (ne-eqb c 72 h, eq-eqb (length (take n a)) 1 (omega arith), getD-take n a 0 (pos 0) (omega arith))
 
-    pub names-none : (n ≡ 1 → ⊥) → Malformed ≡ spoken c (take n a)
+    pub names-none : (n ≡ 1 → ⊥) → Malformed ≡ letterCommand c (take n a)
     names-none d = let l = length-take n a in rw (ne-eqb c 72 h, ne-eqb (length (take n a)) 1 λ e. d (omega arith))
 
-  pub shoots : 10 ≤ n → plainShotText (shotOf (Book.numbersOf a)) ≡ plainText (take n a)
-  shoots h = rw (take-all n a (omega arith), eq-eqb (length a) 10 full)
+  pub shoots : fieldCount ≤ n → shotText Batch (shot (Book.numbersOf a)) ≡ batchText (take n a)
+  shoots h = rw (take-all n a (omega arith), eq-eqb (length a) fieldCount full)
 
-  pub shoots-not : n < 10 → refusalText 14 ≡ plainText (take n a)
-  shoots-not h = let l = length-take n a in rw (ne-eqb (length (take n a)) 10 λ e. omega arith)
+  pub shoots-not : n < fieldCount → refusalText 14 ≡ batchText (take n a)
+  shoots-not h = let l = length-take n a in rw (ne-eqb (length (take n a)) fieldCount λ e. omega arith)
 
 -- by the first two bytes
 pub no-bytes : (l : List ℕ) → length l ≡ 0 → Malformed ≡ sessionCommand l
@@ -64,10 +67,10 @@ module _ (l : List ℕ) (some : length l ≡ 0 → ⊥) (more : length l ≡ 1 �
       by (c ∷ []) n m e = absurd (m refl)
       by (c ∷ s ∷ l) n m e = rw (ne-eqb s 32 e)
 
-  pub behind-space : getD l 1 0 ≡ 32 → spoken (getD l 0 0) (numbersOf 9 (drop 2 l)) ≡ sessionCommand l
+  pub behind-space : getD l 1 0 ≡ 32 → letterCommand (getD l 0 0) (numbersOf 9 (drop 2 l)) ≡ sessionCommand l
   behind-space e = by l some more e
     where
-      by : (l : List ℕ) → (length l ≡ 0 → ⊥) → (length l ≡ 1 → ⊥) → getD l 1 0 ≡ 32 → spoken (getD l 0 0) (numbersOf 9 (drop 2 l)) ≡ sessionCommand l
+      by : (l : List ℕ) → (length l ≡ 0 → ⊥) → (length l ≡ 1 → ⊥) → getD l 1 0 ≡ 32 → letterCommand (getD l 0 0) (numbersOf 9 (drop 2 l)) ≡ sessionCommand l
       by [] n m e = absurd (n refl)
       by (c ∷ []) n m e = absurd (m refl)
       by (c ∷ s ∷ l) n m e = rw (eq-eqb s 32 e)

@@ -1,39 +1,40 @@
--- A LINE LONGER THAN 199 BYTES IS MALFORMED, whatever it holds; so the first 200 bytes of a line are answered as the whole line is. Assumes nothing.
-use Prim.Native.Nat.{ℕ, suc, _+_, _*_, _<_, _≤_}
-use native.Mathlib.Omega.{arith}
-use native.Mathlib.Nat.{mul-add, mul-one}
+-- A line longer than 199 bytes is malformed, whatever it holds; so the first 200 bytes of a line are answered as the whole line is.
 use mathlib.Core.Path.{_≡_, refl, sym, ap, _∙_}
 use mathlib.Core.Bool.{Bool, true, false, cond}
 use mathlib.Core.Logic.{_⊎_, inl, inr, ⊎-elim}
 use mathlib.Core.List.{List, [], _∷_, _++_}
-use borrow.Author.Tests.{le-ltb, lt-ltb, ne-eqb, leb-true, leb-false}
+use Prim.Native.Nat.{ℕ, suc, _+_, _*_, _<_, _≤_}
+use native.Mathlib.Omega.{arith}
+use native.Mathlib.Nat.{mul-add, mul-one}
 use lib.Dec.{eqb, leb, ltb}
 use lib.IntN.{ℤ}
 use lib.ListN.{length, take, length-append}
 use lib.Seq.{take-all, length-take-le}
+use borrow.Author.Tests.{le-ltb, lt-ltb, ne-eqb, leb-true, leb-false}
+use Rattle.card.specs.Fields.{fieldCount}
+use Rattle.card.specs.declared.Card.{Card}
+use Rattle.lines.specs.Numerals.{digitsOf, plus, minus, numeralOf, prefixed, words, rowLength, ifNumber, numbersBehind, numbersOf}
 use Rattle.lines.specs.declared.Digits.the-variants.{Other}
 use Rattle.lines.specs.declared.Numeral.{Numeral}
 use Rattle.lines.specs.declared.Numeral.the-variants.{Number, NoNumber}
-use Rattle.lines.specs.Numbers.{digitsOf, plus, minus, numeralOf, prefixed, words, rowLength, ifNumber, numbersBehind, numbersOf}
 use Rattle.lines.proofs.Words.{first-word}
-use Rattle.card.specs.declared.Card.{Card}
+use Rattle.replies.specs.Commands.{letterCommand, sessionCommand, longestLine}
+use Rattle.replies.specs.Answers.{refusalText, commandText, commandCard, batchReply, reply, next}
 use Rattle.replies.specs.declared.Command.{Command}
 use Rattle.replies.specs.declared.Protocol.{Protocol}
 use Rattle.replies.specs.declared.Protocol.the-variants.{Session, Batch}
 use Rattle.replies.specs.declared.Command.the-variants.{Malformed}
-use Rattle.replies.specs.Commands.{spoken, sessionCommand, longestLine}
-use Rattle.replies.specs.Answers.{refusalText, answerText, cardAfter, plainReply, reply, next}
 
 same : {A : Type 0} (b : Bool) {x y z : A} → x ≡ z → y ≡ z → cond b x y ≡ z
 same true p q = p
 same false p q = q
 
-by-answer : {P : Type 0} (m n : ℕ) (b : Bool) → leb m n ≡ b → (m ≤ n → P) → (n < m → P) → P
-by-answer m n true e p q = p (leb-true m n e)
-by-answer m n false e p q = q (leb-false m n e)
+by-leb : {P : Type 0} (m n : ℕ) (b : Bool) → leb m n ≡ b → (m ≤ n → P) → (n < m → P) → P
+by-leb m n true e p q = p (leb-true m n e)
+by-leb m n false e p q = q (leb-false m n e)
 
 by-order : {P : Type 0} (m n : ℕ) → (m ≤ n → P) → (n < m → P) → P
-by-order m n p q = by-answer m n (leb m n) refl p q
+by-order m n p q = by-leb m n (leb m n) refl p q
 
 -- a word of more than most + 1 bytes is no number
 long-digits : (most : ℕ) (l : List ℕ) → most < length l → digitsOf most l ≡ Other
@@ -100,8 +101,8 @@ module _ (most : ℕ) where
       let m = ap (λ (n : ℕ). (most + 2) * n) e in
       ⊎-elim (λ n. let o = ap length n in omega arith) (λ f. omega arith) (fit (words l) [])
 
-long-spoken : (c : ℕ) (l : List ℕ) → 21 < length l → spoken c (numbersOf 9 l) ≡ Malformed
-long-spoken c l h =
+long-letter : (c : ℕ) (l : List ℕ) → 21 < length l → letterCommand c (numbersOf 9 l) ≡ Malformed
+long-letter c l h =
     let two = ne-eqb (length (numbersOf 9 l)) 2 (not-so-many 9 2 l (omega arith) (omega arith)) in
     let one = ne-eqb (length (numbersOf 9 l)) 1 (not-so-many 9 1 l (omega arith) (omega arith)) in
     same (eqb c 72) (rw two) (rw one)
@@ -109,11 +110,11 @@ long-spoken c l h =
 long-session : (l : List ℕ) → 23 < length l → sessionCommand l ≡ Malformed
 long-session [] h = refl
 long-session (c ∷ []) h = absurd (omega arith)
-long-session (c ∷ s ∷ l) h = same (eqb s 32) (long-spoken c l (omega arith)) refl
+long-session (c ∷ s ∷ l) h = same (eqb s 32) (long-letter c l (omega arith)) refl
 
-long-plain : (l : List ℕ) → longestLine < length l → plainReply l ≡ refusalText 14 ++ (10 ∷ [])
-unfolding plainReply
-long-plain l h = rw (ne-eqb (length (numbersOf 18 l)) 10 (not-so-many 18 10 l (omega arith) (omega arith)))
+long-batch : (l : List ℕ) → longestLine < length l → batchReply l ≡ refusalText 14 ++ (10 ∷ [])
+unfolding batchReply
+long-batch l h = rw (ne-eqb (length (numbersOf 18 l)) fieldCount (not-so-many 18 fieldCount l (omega arith) (omega arith)))
 
 -- what is the same for all long lines, the first 200 bytes tell
 told-by-first : {A : Type 0} (f : List ℕ → A) (a : A) → ((l : List ℕ) → longestLine < length l → f l ≡ a)
@@ -128,5 +129,5 @@ first-asks = told-by-first sessionCommand Malformed λ l h. long-session l (omeg
 pub first-bytes : (p : Protocol) (c : Card) (l : List ℕ)
     → (reply p c (take (suc longestLine) l) ≡ reply p c l) × (next p c (take (suc longestLine) l) ≡ next p c l)
 unfolding reply next
-first-bytes Session c l = (ap (λ (a : Command). answerText a c ++ (10 ∷ [])) (first-asks l), ap (λ (a : Command). cardAfter a c) (first-asks l))
-first-bytes Batch c l = (told-by-first plainReply (refusalText 14 ++ (10 ∷ [])) long-plain l, refl)
+first-bytes Session c l = (ap (λ (a : Command). commandText a c ++ (10 ∷ [])) (first-asks l), ap (λ (a : Command). commandCard a c) (first-asks l))
+first-bytes Batch c l = (told-by-first batchReply (refusalText 14 ++ (10 ∷ [])) long-batch l, refl)

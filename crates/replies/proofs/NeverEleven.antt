@@ -1,32 +1,31 @@
--- THE SESSION NEVER GIVES REFUSAL 11, whatever the lines are and whatever the card holds: no line of either program is answered `no 11`.
--- Assumes nothing.
-use Prim.Native.Nat.{ℕ, _+_}
+-- The session never gives refusal 11, whatever the lines are and whatever the card holds: no line of either program is answered `no 11`.
 use mathlib.Core.Path.{_≡_, refl, ap}
 use mathlib.Core.Bool.{Bool, true, false, cond}
 use mathlib.Core.Logic.{_≢_}
 use mathlib.Core.List.{List, [], _∷_, _++_}
-use borrow.Author.Tests.{eqb-false}
+use Prim.Native.Nat.{ℕ, _+_}
 use lib.Dec.{eqb}
 use lib.IntN.{ℤ, pos, negsuc}
 use lib.ListN.{length, getD}
-use Rattle.refusal.proofs.Decisions.{holds-decided}
+use borrow.Author.Tests.{eqb-false}
+use Rattle.refusal.proofs.Decisions.{Each, holds-decided}
 use Rattle.digits.specs.Text.{decimalIn, decimal, spaced, digits, text}
-use Rattle.lines.specs.Numbers as Lines
-use Rattle.lines.specs.Writing.{decimalText}
+use Rattle.card.specs.Fields.{numberIn, fieldCount, slotIndex, fieldOf, put}
+use Rattle.card.specs.Confirmed.{cardTests}
+use Rattle.card.specs.Calls as Calls
+use Rattle.card.specs.Calls.{CardValues, accepted, hearTests, hear, confirmTests, confirm, heldTests}
 use Rattle.card.specs.declared.Card.{Card}
 use Rattle.card.specs.declared.Field.the-variants.{Heard, Confirmed}
-use Rattle.card.specs.Fields.{numberIn, placeOf, fieldOf, put}
-use Rattle.card.specs.Shot.{cardTests}
-use Rattle.card.specs.Calls as Calls
-use Rattle.card.specs.Calls.{AnswerValues, accepted, hearTests, hearing, confirmTests, confirming, heldTests}
-use Rattle.fieldbook.specs.Shot.{Values, refused, tests, answerOf, shotOf, cardNumbers, cardShot}
+use Rattle.fieldbook.specs.Shot.{ShotValues, refused, tests, answerOf, shot, cardNumbers, shotFromCard}
 use Rattle.fieldbook.specs.declared.Numbers.{Numbers}
+use Rattle.lines.specs.Numerals as Lines
+use Rattle.lines.specs.Appending.{decimalText}
+use Rattle.replies.specs.Commands.{sessionCommand}
+use Rattle.replies.specs.Answers.{refusalText, verdictText, readText, shotText, commandText, batchReply, reply}
 use Rattle.replies.specs.declared.Command.{Command}
 use Rattle.replies.specs.declared.Command.the-variants.{Hear, Read, Confirm, Shoot, Malformed}
 use Rattle.replies.specs.declared.Protocol.{Protocol}
 use Rattle.replies.specs.declared.Protocol.the-variants.{Session, Batch}
-use Rattle.replies.specs.Commands.{sessionCommand}
-use Rattle.replies.specs.Answers.{refusalText, verdictText, readText, shotText, plainShotText, answerText, plainReply, reply}
 
 abbrev NotEleven : List ℕ → Type 0
 NotEleven t = t ++ (10 ∷ []) ≢ refusalText 11 ++ (10 ∷ [])
@@ -53,20 +52,20 @@ tell k = differs 4 (refusalText k)
 
 -- ---- by what is asked
 module _ (c : Card) (f : ℤ) where
-  abbrev Verdict : AnswerValues → Type 0
+  abbrev Verdict : CardValues → Type 0
   Verdict a = NotEleven (verdictText (a .refusal))
 
-  hear-is-not : (z : ℤ) → NotEleven (verdictText (hearing c f z .refusal))
+  hear-is-not : (z : ℤ) → NotEleven (verdictText (hear c f z .refusal))
   unfolding decimalText decimal decimalIn
   hear-is-not z =
-      holds-decided Verdict (hearTests f z) (accepted (put c (placeOf f) (Heard z))) (Calls.refused c)
+      holds-decided Verdict (hearTests f z) (accepted (put c (slotIndex f) (Heard z))) (Calls.refused c)
       (differs 1 (verdictText 0) refl)
       (tell 9 refl, (tell 13 refl, tt))
 
-  confirm-is-not : NotEleven (verdictText (confirming c f .refusal))
+  confirm-is-not : NotEleven (verdictText (confirm c f .refusal))
   unfolding decimalText decimal decimalIn
   confirm-is-not =
-      holds-decided Verdict (confirmTests c f) (accepted (put c (placeOf f) (Confirmed (numberIn (fieldOf c f)))))
+      holds-decided Verdict (confirmTests c f) (accepted (put c (slotIndex f) (Confirmed (numberIn (fieldOf c f)))))
       (Calls.refused c)
       (differs 1 (verdictText 0) refl)
       (tell 9 refl, (tell 12 refl, tt))
@@ -75,35 +74,40 @@ module _ (c : Card) (f : ℤ) where
   unfolding readText decimalText decimal decimalIn
   read-is-not = holds-decided NotEleven (heldTests c f) (text (numberIn (fieldOf c f))) refusalText (text-is-not (numberIn (fieldOf c f))) (tell 9 refl, (tell 10 refl, tt))
 
-card-shot-is-not : (c : Card) → NotEleven (shotText (cardShot c))
-unfolding cardShot decimalText decimal decimalIn
+-- a shot of either program, by its tests
+module _ (p : Protocol) (x : Numbers) where
+  abbrev Shot : ShotValues → Type 0
+  Shot v = NotEleven (shotText p v)
+
+  tests-are-not : Each (λ k. Shot (refused k)) (tests x)
+  unfolding decimalText decimal decimalIn
+  tests-are-not = (tell 2 refl, (tell 3 refl, (tell 4 refl, (tell 5 refl, (tell 6 refl, (tell 7 refl, (tell 8 refl, tt)))))))
+
+card-shot-is-not : (c : Card) → NotEleven (shotText Session (shotFromCard c))
+unfolding shotFromCard decimalText decimal decimalIn
 card-shot-is-not c =
-    holds-decided (λ (v : Values). NotEleven (shotText v)) (cardTests c ++ tests (cardNumbers c)) (answerOf (cardNumbers c)) refused
-    (differs 0 (shotText (answerOf (cardNumbers c))) refl)
-    (tell 1 refl, (tell 2 refl, (tell 3 refl, (tell 4 refl, (tell 5 refl, (tell 5 refl, (tell 6 refl, (tell 7 refl, (tell 8 refl, tt)))))))))
+    let x = cardNumbers c in
+    holds-decided (Shot Session x) (cardTests c ++ tests x) (answerOf x) refused (differs 0 (shotText Session (answerOf x)) refl) (tell 1 refl, tests-are-not Session x)
 
-shot-is-not : (x : Numbers) → NotEleven (plainShotText (shotOf x))
-unfolding shotOf decimalText decimal decimalIn
-shot-is-not x =
-    holds-decided (λ (v : Values). NotEleven (plainShotText v)) (tests x) (answerOf x) refused
-    (differs 0 (plainShotText (answerOf x)) refl)
-    (tell 2 refl, (tell 3 refl, (tell 4 refl, (tell 5 refl, (tell 5 refl, (tell 6 refl, (tell 7 refl, (tell 8 refl, tt))))))))
+shot-is-not : (x : Numbers) → NotEleven (shotText Batch (shot x))
+unfolding shot decimalText decimal decimalIn
+shot-is-not x = holds-decided (Shot Batch x) (tests x) (answerOf x) refused (differs 0 (shotText Batch (answerOf x)) refl) (tests-are-not Batch x)
 
-answer-is-not : (a : Command) (c : Card) → NotEleven (answerText a c)
+command-is-not : (a : Command) (c : Card) → NotEleven (commandText a c)
 unfolding decimalText decimal decimalIn
-answer-is-not (Hear f z) c = hear-is-not c f z
-answer-is-not (Read f) c = read-is-not c f
-answer-is-not (Confirm f) c = confirm-is-not c f
-answer-is-not Shoot c = card-shot-is-not c
-answer-is-not Malformed c = tell 14 refl
+command-is-not (Hear f z) c = hear-is-not c f z
+command-is-not (Read f) c = read-is-not c f
+command-is-not (Confirm f) c = confirm-is-not c f
+command-is-not Shoot c = card-shot-is-not c
+command-is-not Malformed c = tell 14 refl
 
--- (b: whether the numbers are ten)
-plain-is-not : (b : Bool) (x : Numbers) → NotEleven (cond b (plainShotText (shotOf x)) (refusalText 14))
+-- (b: whether there is a number for each field)
+batch-is-not : (b : Bool) (x : Numbers) → NotEleven (cond b (shotText Batch (shot x)) (refusalText 14))
 unfolding decimalText decimal decimalIn
-plain-is-not true x = shot-is-not x
-plain-is-not false x = tell 14 refl
+batch-is-not true x = shot-is-not x
+batch-is-not false x = tell 14 refl
 
 pub never-eleven : (p : Protocol) (c : Card) (l : List ℕ) → reply p c l ≢ refusalText 11 ++ (10 ∷ [])
-unfolding reply plainReply
-never-eleven Session c l = answer-is-not (sessionCommand l) c
-never-eleven Batch c l = plain-is-not (eqb (length (Lines.numbersOf 18 l)) 10) _
+unfolding reply batchReply
+never-eleven Session c l = command-is-not (sessionCommand l) c
+never-eleven Batch c l = batch-is-not (eqb (length (Lines.numbersOf 18 l)) fieldCount) _

@@ -1,27 +1,28 @@
--- Reading a field into a part of the buffer that has room for every number of 64 bits: the buffer refuses nothing, so that what is answered
--- goes by the field alone. Assumes nothing.
-use Prim.Native.Nat.{ℕ, suc, _+_, _-_, _^_, _<_, _≤_}
-use native.Mathlib.Omega.{arith}
+-- Reading a field into a part of the buffer that has room for every number of 64 bits: the buffer refuses nothing, so that what is answered goes by
+-- the field alone.
 use mathlib.Core.Path.{_≡_, refl, sym, ap, _∙_}
 use mathlib.Core.Bool.{Bool, true, cond}
 use mathlib.Core.List.{List, [], _∷_, _++_}
+use Prim.Native.Nat.{ℕ, suc, _+_, _-_, _^_, _<_, _≤_}
+use native.Mathlib.Omega.{arith}
+use lib.IntN.{ℤ, pos, negsuc, natAbs}
+use lib.ListN.{length, take, drop, length-take, length-drop}
+use lib.Seq.{take-at, length-take-le}
 use borrow.Author.Tests.{le-leb}
 use borrow.Rule.Slice.PartMut.{putMid}
-use lib.IntN.{ℤ, pos, negsuc, natAbs}
-use lib.ListN.{length, take, drop, length-take, length-drop, length-append}
-use lib.Seq.{take-at, drop-at, take-add, take-append-le, length-take-le}
-use Rattle.refusal.specs.declared.Refusal.{Refusal}
-use Rattle.refusal.specs.Numbers.{numberOf}
+use Rattle.refusal.specs.RefusalNumbers.{numberOf}
 use Rattle.refusal.specs.Tests.{test, decided}
+use Rattle.refusal.specs.declared.Refusal.{Refusal}
 use Rattle.refusal.proofs.Decisions.{Refusable, decided-append, handed-on, passed-on}
 use Rattle.digits.specs.Text.{text}
 use Rattle.digits.specs.Writing.{fits, over}
 use Rattle.digits.proofs.Decimal.{length-digits-64}
-use Rattle.card.specs.declared.Card.{Card}
 use Rattle.card.specs.Fields.{numberIn, fieldOf}
-use Rattle.card.specs.Calls.{ReadValues, writtenOut, notWritten, readCard, heldTests, reading, bufferAfter}
-use Rattle.lines.specs.Writing.{Appends}
-use Rattle.replies.specs.Answers.{longest, refusalText, readText, cardRead}
+use Rattle.card.specs.Calls.{ReadValues, writtenOut, notWritten, readCard, heldTests, read, bufferAfter}
+use Rattle.card.specs.declared.Card.{Card}
+use Rattle.lines.specs.Appending.{Appends}
+use Rattle.replies.specs.Sizes.{longest}
+use Rattle.replies.specs.Answers.{refusalText, readText, cardRead}
 
 -- every number of 64 bits has room
 text-fits : (z : ℤ) → natAbs z < 2 ^ 64 → length (text z) ≤ longest
@@ -49,17 +50,17 @@ module _ (c : Card) (f : ℤ) (l : List ℕ) (e : length l ≡ longest) (small :
       ∙ ap (λ (b : Bool). decided (heldTests c f) (cond b a (refused 11)) refused) has-room
 
   -- what a decision by the first two gives, where the reading wrote and where it was refused
-  wrote-so : {B : Type 0} (b : B) (refused : ℕ → B) (k : ℕ) (d : Card) → writtenOut k d ≡ reading c f l 0 → b ≡ decided (heldTests c f) b refused
+  wrote-so : {B : Type 0} (b : B) (refused : ℕ → B) (k : ℕ) (d : Card) → writtenOut k d ≡ read c f l 0 → b ≡ decided (heldTests c f) b refused
   wrote-so b refused k d w =
       passed-on (readings c) wrote refl b refused (heldTests c f) (omega arith, (omega arith, tt)) (ap (λ (a : ReadValues). a .refusal) (w ∙ by-two wrote (notWritten c)))
 
-  refused-so : {B : Type 0} (b : B) (refused : ℕ → B) (r : Refusal) (d : Card) → notWritten d (numberOf r) ≡ reading c f l 0
+  refused-so : {B : Type 0} (b : B) (refused : ℕ → B) (r : Refusal) (d : Card) → notWritten d (numberOf r) ≡ read c f l 0
       → refused (numberOf r) ≡ decided (heldTests c f) b refused
   refused-so b refused r d w =
       handed-on (readings c) wrote refl b refused (heldTests c f) r (ap (λ (a : ReadValues). a .refusal) (w ∙ by-two wrote (notWritten c)))
 
   -- a reading that wrote k bytes wrote the text
-  pub said : (k : ℕ) (d : Card) → writtenOut k d ≡ reading c f l 0
+  pub said : (k : ℕ) (d : Card) → writtenOut k d ≡ read c f l 0
       → (k ≡ length (readText c f)) × (d ≡ cardRead c f) × (bufferAfter c f l 0 ≡ over l 0 (readText c f)) × (k ≤ longest)
   unfolding readText cardRead
   said k d w =
@@ -74,38 +75,23 @@ module _ (c : Card) (f : ℤ) (l : List ℕ) (e : length l ≡ longest) (small :
       )
 
   -- one that was refused was refused by the field
-  pub not-said : (r : Refusal) (d : Card) → notWritten d (numberOf r) ≡ reading c f l 0 → (refusalText (numberOf r) ≡ readText c f) × (d ≡ cardRead c f)
+  pub not-said : (r : Refusal) (d : Card) → notWritten d (numberOf r) ≡ read c f l 0 → (refusalText (numberOf r) ≡ readText c f) × (d ≡ cardRead c f)
   unfolding readText cardRead
   not-said r d w =
       let same = w ∙ by-two wrote (notWritten c) ∙ sym (refused-so wrote (notWritten c) r d w) in
       (refused-so (text z) refusalText r d w, ap (λ (a : ReadValues). a .card) same ∙ refused-so (readCard c f) (λ k. c) r d w)
 
 -- ---- the part of a buffer that is lent
--- it comes back with k bytes at its front
-take-part : (at n k : ℕ) (l y : List ℕ) → at ≤ length l → k ≤ length y → take (at + k) (putMid at n l y) ≡ take at l ++ take k y
-take-part at n k l y h r =
-    let e = length-take-le at l h in
-    take-add at k (putMid at n l y)
-    ∙ rw (take-at (take at l) (y ++ drop n (drop at l)) at e, drop-at (take at l) (y ++ drop n (drop at l)) at e, take-append-le k y (drop n (drop at l)) r)
-
 -- it is as long as the longest answer
-pub part-length : (at : ℕ) (l : List ℕ) → at + longest ≤ length l → length (take (at + longest - at) (drop at l)) ≡ longest
-part-length at l h = simp (length-take, length-drop) (omega arith)
-
--- the text that was written at its front is appended to the buffer
-pub appended : (out y t : List ℕ) (at k : ℕ) → at + longest ≤ length out → k ≡ length t → k ≤ longest
-    → y ≡ over (take (at + longest - at) (drop at out)) 0 t → Appends out at t (putMid at (at + longest - at) out y) (at + k)
-appended out y t at k h e w g =
-    let l = take (at + longest - at) (drop at out) in
-    let p = part-length at out h in
-    let s : take k y ≡ t = rw g (take-at t (drop (0 + length t) l) k (sym e)) in
-    let n : k ≤ length y = rw g (simp (length-append) (omega arith)) in
-    record { ends = omega arith; holds = take-part at (at + longest - at) k out y (omega arith) n ∙ ap (λ (x : List ℕ). take at out ++ x) s }
+pub part-length : (place : ℕ) (l : List ℕ) → place + longest ≤ length l → length (take (place + longest - place) (drop place l)) ≡ longest
+part-length place l h = simp (length-take, length-drop) (omega arith)
 
 -- what is appended there instead, where the reading was refused
-pub appended-instead : (out y x t : List ℕ) (at k : ℕ) → at + longest ≤ length out
-    → Appends (putMid at (at + longest - at) out y) at t x k → Appends out at t x k
-appended-instead out y x t at k h a = record {
+pub appended-instead : (out y x t : List ℕ) (place k : ℕ) → place + longest ≤ length out
+    → Appends (putMid place (place + longest - place) out y) place t x k → Appends out place t x k
+appended-instead out y x t place k h a = record {
   ends = a .ends;
-  holds = a .holds ∙ ap (λ (l : List ℕ). l ++ t) (take-at (take at out) (y ++ drop (at + longest - at) (drop at out)) at (length-take-le at out (omega arith)));
+  holds =
+      a .holds
+      ∙ ap (λ (l : List ℕ). l ++ t) (take-at (take place out) (y ++ drop (place + longest - place) (drop place out)) place (length-take-le place out (omega arith)));
 }

@@ -1,11 +1,11 @@
--- The number of a refusal is not that of an accepted call. Assumes nothing.
+-- The number of a refusal is not that of an accepted call.
 use mathlib.Core.Path.{_≡_}
 use mathlib.Core.Bool.{false}
 use native.Mathlib.Omega.{arith}
-use borrow.Author.Tests.{ne-eqb}
 use lib.Dec.{eqb}
+use borrow.Author.Tests.{ne-eqb}
+use Rattle.refusal.specs.RefusalNumbers.{numberOf}
 use Rattle.refusal.specs.declared.Refusal.{Refusal}
-use Rattle.refusal.specs.Numbers.{numberOf}
 use Rattle.refusal.proofs.Decisions.{number-above-zero}
 
 pub not-zero : (r : Refusal) → eqb (numberOf r) 0 ≡ false

@@ -1,81 +1,64 @@
--- ONE BOUND OVER ALL ANGLES AND ALL AXES: a turn enlarges the squared length of a direction by 8·R + 3 at most, where that is at most 2·R². So ten turns in a
--- row, from a direction of length R, leave it shorter than R + 40. It rests on `pythagoras` of the sine: Sin² + Cos² is at most R·(R + 3).
+-- One bound over all angles and all axes: a rotation enlarges the squared length of a direction by 8·R + 3 at most, where that is at most 2·R². So ten rotations
+-- in a row, from a direction of length R, leave it shorter than R + 40. It rests on `pythagoras` of the sine: Sin² + Cos² is at most R·(R + 3).
 use mathlib.Core.Path.{_≡_, refl, sym, ap, ap₂, _∙_}
-use mathlib.Core.Bool.{Bool, true, false}
 use mathlib.Core.List.{List, [], _∷_}
-use Prim.Native.Nat.{ℕ, _+_, _-_, _*_, _≤_, _<_}
+use Prim.Native.Nat.{ℕ, _+_, _*_, _≤_, _<_}
 use native.Mathlib.Nat.{mul-le-mul, mul-le-mul-left, le-of-mul-le-mul-left}
 use native.Mathlib.Omega.{arith}
-use borrow.Author.Tests.{leb-true, leb-false}
-use lib.Dec.{leb, lit<}
+use lib.Dec.{lit<}
 use lib.IntN.{ℤ, pos, negsuc, negℤ, natAbs, _+ℤ_, _*ℤ_}
 use lib.ListN.{length, getD}
-use Rattle.exact.specs.Division.{nearest}
-use Rattle.exact.proofs.Differences.{split, zs, abs-dif}
-use Rattle.exact.proofs.Division.{Within, nearest-error}
-use Rattle.exact.proofs.Ring.{E, v, _⊕_, _⊗_, neg, solve}
-use Rattle.exact.proofs.Turn.{reduced-lt}
-use Rattle.exact.specs.Angle.{turn, reduced}
+use Rattle.exact.specs.Division.{nearestDiv}
+use Rattle.exact.specs.Reduction.{turn, reduced}
+use Rattle.exact.proofs.Differences.{split, zs}
+use Rattle.exact.proofs.Products.{twice, root-le}
+use Rattle.exact.proofs.Integers.{abs-neg, abs-*}
+use Rattle.exact.proofs.Division.{nearest-size}
+use Rattle.exact.proofs.Reduction.{reduced-lt}
 use Rattle.sine.specs.Sine.{R, Sin, Cos}
-use Rattle.sine.specs.Promises.{circleMost}
+use Rattle.sine.specs.SineContract.{circleMost}
 use Rattle.sine.proofs.Pythagoras.{pythagoras}
-use Rattle.rotation.specs.Rotation.{turned, sinOf, cosOf}
-use Rattle.rotation.specs.Length.{squaredLength, Rotation, first, second, third, reach, growth}
-use Rattle.rotation.proofs.Turned.{along, across, turned-1, turned-2, turned-3, three}
+use Rattle.rotation.specs.Rotation.{rotated, sinOf, cosOf}
+use Rattle.rotation.specs.Length.{squaredLength, Rotation, axis1, axis2, axis3, growth}
+use Rattle.rotation.specs.Sizes.{reach}
+use Rattle.rotation.proofs.Components.{along, across, rotated-1, rotated-2, rotated-3, three}
 
--- ---- a pair of components, before it is rounded: its length by that of (u, v) and of (c, s)
+-- ---- a pair of components, before it is rounded: its length by that of (u, w) and of (c, s)
+norm : ℤ → ℤ → ℕ
+norm x y = natAbs x * natAbs x + natAbs y * natAbs y
+
 square : (x : ℤ) → pos (natAbs x * natAbs x) ≡ x *ℤ x
 square (pos n) = refl
 square (negsuc n) = refl
 
-lengths : (c s u w : ℤ)
-    → (c *ℤ u +ℤ s *ℤ w) *ℤ (c *ℤ u +ℤ s *ℤ w) +ℤ (negℤ s *ℤ u +ℤ c *ℤ w) *ℤ (negℤ s *ℤ u +ℤ c *ℤ w)
-    ≡ (u *ℤ u +ℤ w *ℤ w) *ℤ (c *ℤ c +ℤ s *ℤ s)
-lengths c s u w = solve (c ∷ s ∷ u ∷ w ∷ []) (A ⊗ A ⊕ B ⊗ B) ((v 2 ⊗ v 2 ⊕ v 3 ⊗ v 3) ⊗ (v 0 ⊗ v 0 ⊕ v 1 ⊗ v 1)) tt
+-- the square of a sum, where the products of the two sums are opposite
+norm-sums : (p q r t : ℤ) → p *ℤ q +ℤ r *ℤ t ≡ pos 0 → norm (p +ℤ q) (r +ℤ t) ≡ norm p q + norm r t
+unfolding norm
+norm-sums p q r t e =
+    ap natAbs
+    (ap₂ _+ℤ_ (square (p +ℤ q)) (square (r +ℤ t)) ∙ go p q r t e ∙ sym (ap₂ _+ℤ_ (ap₂ _+ℤ_ (square p) (square q)) (ap₂ _+ℤ_ (square r) (square t))))
   where
-    A : E
-    A = v 0 ⊗ v 2 ⊕ v 1 ⊗ v 3
+    go : (p q r t : ℤ) → p *ℤ q +ℤ r *ℤ t ≡ pos 0
+        → (p +ℤ q) *ℤ (p +ℤ q) +ℤ (r +ℤ t) *ℤ (r +ℤ t) ≡ p *ℤ p +ℤ q *ℤ q +ℤ (r *ℤ r +ℤ t *ℤ t)
+    go p q r t = rw (split p, split q, split r, split t) (simp zs (omega arith))
 
-    B : E
-    B = neg (v 1) ⊗ v 2 ⊕ v 0 ⊗ v 3
-
-pos-inj : (a b : ℕ) → pos a ≡ pos b → a ≡ b
-pos-inj a b e = ap natAbs e
-
-norm : ℤ → ℤ → ℕ
-norm x y = natAbs x * natAbs x + natAbs y * natAbs y
+opposite : (c s u w : ℤ) → c *ℤ u *ℤ (s *ℤ w) +ℤ negℤ s *ℤ u *ℤ (c *ℤ w) ≡ pos 0
+opposite c s u w = rw (split c, split s, split u, split w) (simp zs (omega arith))
 
 norms : (c s u w : ℤ) → norm (c *ℤ u +ℤ s *ℤ w) (negℤ s *ℤ u +ℤ c *ℤ w) ≡ norm u w * norm c s
 unfolding norm
-norms c s u w =
-    pos-inj _ _
-    (ap₂ _+ℤ_ (square (c *ℤ u +ℤ s *ℤ w)) (square (negℤ s *ℤ u +ℤ c *ℤ w)) ∙ lengths c s u w
-    ∙ sym (ap₂ _*ℤ_ (ap₂ _+ℤ_ (square u) (square w)) (ap₂ _+ℤ_ (square c) (square s))))
+norms c s u w = norm-sums (c *ℤ u) (s *ℤ w) (negℤ s *ℤ u) (c *ℤ w) (opposite c s u w) ∙ simp (abs-*, abs-neg) (go (natAbs c) (natAbs s) (natAbs u) (natAbs w))
+  where
+    go : (c s u w : ℕ) → c * u * (c * u) + s * w * (s * w) + (s * u * (s * u) + c * w * (c * w)) ≡ (u * u + w * w) * (c * c + s * s)
+    go c s u w = omega arith
 
 -- ---- rounding: by half a unit
-pub rounded : (z : ℤ) → 2 * R * natAbs (nearest z R) ≤ 2 * natAbs z + R
-rounded z = go z (nearest z R) (nearest-error z R (lit< tt))
-  where
-    go : (z q : ℤ) → Within (pos 2_000_000_000 *ℤ q) (pos 2 *ℤ z) R → 2 * R * natAbs q ≤ 2 * natAbs z + R
-    go z q = rw (split z, split q) (simp (zs, abs-dif) (omega arith))
+pub rounded : (z : ℤ) → 2 * R * natAbs (nearestDiv z R) ≤ 2 * natAbs z + R
+rounded z = nearest-size z R (lit< tt)
 
 -- ---- of naturals: a sum of two, by the sum of their squares
-twice : (a b : ℕ) → 2 * (a * b) ≤ a * a + b * b
-twice a b = by (leb a b) refl
-  where
-    go : (a k : ℕ) → (2 * (a * (a + k)) ≤ a * a + (a + k) * (a + k)) × (2 * ((a + k) * a) ≤ (a + k) * (a + k) + a * a)
-    go a k = omega arith
-
-    by : (t : Bool) → leb a b ≡ t → 2 * (a * b) ≤ a * a + b * b
-    by true e = let is : b ≡ a + (b - a) = omega (arith, leb-true a b e) in rw is (go a (b - a) .0)
-    by false e = let is : a ≡ b + (a - b) = omega (arith, leb-false a b e) in rw is (go b (a - b) .1)
-
 sum-le : (a b : ℕ) → a * a + b * b ≤ reach * circleMost → a + b ≤ 2 * (R * R) + 3 * R
-sum-le a b h = by (leb (a + b) (2 * (R * R) + 3 * R)) refl
-  where
-    by : (t : Bool) → leb (a + b) (2 * (R * R) + 3 * R) ≡ t → a + b ≤ 2 * (R * R) + 3 * R
-    by true e = leb-true (a + b) (2 * (R * R) + 3 * R) e
-    by false e = let l : 2 * (R * R) + 3 * R + 1 ≤ a + b = omega (arith, leb-false (a + b) (2 * (R * R) + 3 * R) e) in absurd (omega (arith, twice a b, mul-le-mul l l))
+sum-le a b h = root-le (a + b) (2 * (R * R) + 3 * R) (omega (arith, twice a b))
 
 -- two numbers over R, each rounded: p and q are a / R and b / R and half a unit more at most
 rounded-squares : (a b p q n : ℕ) → 2 * R * p ≤ 2 * a + R → 2 * R * q ≤ 2 * b + R → a * a + b * b ≤ n * circleMost → n ≤ reach
@@ -93,7 +76,7 @@ rounded-squares a b p q n h k l m =
         let f : 2 * R * P ≤ 2 * (R + 3) * n + (4 * (R * R) + 7 * R) = le-of-mul-le-mul-left e (lit< tt) in
         omega arith
 
--- ---- a pair of components, turned by any angle
+-- ---- a pair of components, rotated by any angle
 pair : (a u w : ℤ) → norm u w ≤ reach → norm (along (cosOf a) (sinOf a) u w) (across (cosOf a) (sinOf a) u w) ≤ norm u w + growth
 unfolding norm
 pair a u w h =
@@ -105,15 +88,15 @@ pair a u w h =
     circle : norm (cosOf a) (sinOf a) ≤ circleMost
     circle = omega (arith, pythagoras (reduced a) (reduced-lt a) .most)
 
--- ---- THE THEOREM
-pub grows : {m : List (List ℤ)} → Rotation m → (d : List ℤ) → length d ≡ 3 → squaredLength d ≤ reach → squaredLength (turned m d) ≤ squaredLength d + growth
+-- ---- any rotation
+pub grows : {m : List (List ℤ)} → Rotation m → (d : List ℤ) → length d ≡ 3 → squaredLength d ≤ reach → squaredLength (rotated m d) ≤ squaredLength d + growth
 unfolding squaredLength norm
 grows r d l h = rw (three (pos 0) d l) (by r (getD d 0 (pos 0)) (getD d 1 (pos 0)) (getD d 2 (pos 0)) (rw (three (pos 0) d l) at h))
   where
-    by : {m : List (List ℤ)} → Rotation m → (x y z : ℤ) → squaredLength (x ∷ y ∷ z ∷ []) ≤ reach → squaredLength (turned m (x ∷ y ∷ z ∷ [])) ≤ squaredLength (x ∷ y ∷ z ∷ []) + growth
-    by (first a) x y z h = rw (turned-1 a x y z) (omega (arith, pair a y z (omega arith)))
-    by (second a) x y z h = rw (turned-2 a x y z) (omega (arith, pair a z x (omega arith)))
-    by (third a) x y z h = rw (turned-3 a x y z) (omega (arith, pair a x y (omega arith)))
+    by : {m : List (List ℤ)} → Rotation m → (x y z : ℤ) → squaredLength (x ∷ y ∷ z ∷ []) ≤ reach → squaredLength (rotated m (x ∷ y ∷ z ∷ [])) ≤ squaredLength (x ∷ y ∷ z ∷ []) + growth
+    by (axis1 a) x y z h = rw (rotated-1 a x y z) (omega (arith, pair a y z (omega arith)))
+    by (axis2 a) x y z h = rw (rotated-2 a x y z) (omega (arith, pair a z x (omega arith)))
+    by (axis3 a) x y z h = rw (rotated-3 a x y z) (omega (arith, pair a x y (omega arith)))
 
 -- ---- a cosine and a sine of one angle: a direction in the plane of two axes
 module _ (a : ℕ) {x y : ℤ} (h : a < turn) (p : x ≡ Cos a) (q : y ≡ Sin a) where

@@ -1,6 +1,4 @@
--- `Growth` is the theorem. What it stands on. `Turned`: a turned direction by its components; `Sizes`: bounds on components and sums;
--- `Signed`: numbers of the machine.
-pub mod Signed
-pub mod Turned
+-- `Growth` is the theorem. What it stands on. `Components`: a rotated direction by its components; `Sizes`: bounds on components and sums.
+pub mod Components
 pub mod Growth
 pub mod Sizes

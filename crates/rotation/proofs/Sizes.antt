@@ -1,26 +1,26 @@
--- The sizes that the code stands on: an entry of a turn is at most R and a component at most 1.5·R, so that a row's sum of products fits.
+-- The sizes that the code stands on: an entry of a rotation is at most R and a component at most 1.5·R, so that a row's sum of products fits.
 use mathlib.Core.Path.{_≡_, refl, ap₂, sym, _∙_}
-use mathlib.Core.Bool.{Bool, true, false}
 use mathlib.Core.List.{List, [], _∷_}
 use Prim.Native.Nat.{ℕ, zero, suc, _*_, _≤_}
-use native.Mathlib.Nat.{le-refl, mul-le-mul}
+use native.Mathlib.Nat.{le-refl}
 use native.Mathlib.Omega.{arith}
-use borrow.Author.Tests.{leb-true, leb-false}
-use lib.Dec.{leb}
 use lib.IntN.{ℤ, pos, negℤ, natAbs, _+ℤ_, _*ℤ_}
 use lib.ListN.{length, getD}
 use mir.Syntax.{w64}
 use mir.Val.{SFits}
-use Rattle.exact.specs.Angle.{reduced}
+use Rattle.exact.specs.Reduction.{reduced}
+use Rattle.exact.specs.Nth.{nth}
 use Rattle.exact.proofs.Differences.{split, zs}
-use Rattle.exact.proofs.Integers.{abs-*-le}
+use Rattle.exact.proofs.Products.{root-le}
+use Rattle.exact.proofs.Integers.{abs-neg, abs-*-le}
 use Rattle.exact.proofs.Machine.{held, held-is, fits-le}
-use Rattle.exact.proofs.Turn.{reduced-lt}
+use Rattle.exact.proofs.Reduction.{reduced-lt}
 use Rattle.sine.specs.Sine.{R}
 use Rattle.sine.proofs.Monotonicity.{sin-range, cos-range}
 use Rattle.rotation.specs.Rotation.{dot, sinOf, cosOf, rotation1, rotation2, rotation3}
-use Rattle.rotation.specs.Length.{Bounded, Rotation, first, second, third, squaredLength, reach, componentMost, sumMost}
-use Rattle.rotation.proofs.Turned.{three}
+use Rattle.rotation.specs.Length.{Rotation, axis1, axis2, axis3, squaredLength}
+use Rattle.rotation.specs.Sizes.{Bounded, reach, componentMost, sumMost}
+use Rattle.rotation.proofs.Components.{three}
 
 -- ---- a list of three, and of three rows
 pub bounded : (k : ℕ) (x y z : ℤ) → natAbs x ≤ k → natAbs y ≤ k → natAbs z ≤ k → Bounded k (x ∷ y ∷ z ∷ [])
@@ -44,10 +44,7 @@ module _ (a : ℤ) where
   cos-le = cos-range (reduced a) (reduced-lt a)
 
   neg-le : natAbs (negℤ (sinOf a)) ≤ R
-  neg-le = go (sinOf a) sin-le
-    where
-      go : (s : ℤ) → natAbs s ≤ R → natAbs (negℤ s) ≤ R
-      go s = rw (split s) (simp zs (omega arith))
+  neg-le = rw abs-neg sin-le
 
 -- as the machine holds the numbers that `sines_of` gives
 pub sines-held : (a c s m : ℤ) → (c ≡ cosOf a) × (s ≡ sinOf a) × (m ≡ negℤ (sinOf a)) → (held c ≡ cosOf a) × (held s ≡ sinOf a) × (held m ≡ negℤ (sinOf a))
@@ -55,26 +52,22 @@ sines-held a c s m e =
     rw (e .0, e .1, e .2)
     (held-is _ (fits-le R _ (cos-le a) refl), held-is _ (fits-le R _ (sin-le a) refl), held-is _ (fits-le R _ (neg-le a) refl))
 
--- ---- the entries of a turn
+-- ---- the entries of a rotation
 pub entries-le : {m : List (List ℤ)} → Rotation m → (i : ℕ) → Bounded R (getD m i [])
 unfolding rotation1 rotation2 rotation3
-entries-le (first a) =
+entries-le (axis1 a) =
     rows _ _ _ (bounded R _ _ _ (le-refl R) (omega arith) (omega arith)) (bounded R _ _ _ (omega arith) (cos-le a) (sin-le a))
     (bounded R _ _ _ (omega arith) (neg-le a) (cos-le a))
-entries-le (second a) =
+entries-le (axis2 a) =
     rows _ _ _ (bounded R _ _ _ (cos-le a) (omega arith) (neg-le a)) (bounded R _ _ _ (omega arith) (le-refl R) (omega arith))
     (bounded R _ _ _ (sin-le a) (omega arith) (cos-le a))
-entries-le (third a) =
+entries-le (axis3 a) =
     rows _ _ _ (bounded R _ _ _ (cos-le a) (sin-le a) (omega arith)) (bounded R _ _ _ (neg-le a) (cos-le a) (omega arith))
     (bounded R _ _ _ (omega arith) (omega arith) (le-refl R))
 
 -- ---- the components of a direction
 component-le : (n : ℕ) → n * n ≤ reach → n ≤ componentMost
-component-le n h = by (leb n componentMost) refl
-  where
-    by : (t : Bool) → leb n componentMost ≡ t → n ≤ componentMost
-    by true e = leb-true n componentMost e
-    by false e = let l : componentMost ≤ n = omega (arith, leb-false n componentMost e) in absurd (omega (arith, mul-le-mul l l))
+component-le n h = root-le n componentMost (omega arith)
 
 pub components-le : (d : List ℤ) → squaredLength d ≤ reach → Bounded componentMost d
 unfolding squaredLength
@@ -83,11 +76,8 @@ components-le (x ∷ d) h zero = component-le (natAbs x) (omega arith)
 components-le (x ∷ d) h (suc i) = components-le d (omega arith) i
 
 -- ---- the sum of a row's products: the i-th, all that the sum asks, and what it is
-abbrev pub at : List ℤ → ℕ → ℤ
-at xs i = getD xs i (pos 0)
-
 abbrev pub product : List ℤ → List ℤ → ℕ → ℤ
-product xs ys i = at xs i *ℤ at ys i
+product xs ys i = nth xs i *ℤ nth ys i
 
 abbrev pub Sums : ℤ → ℤ → ℤ → Type 0
 Sums p q r = SFits w64 p × SFits w64 q × SFits w64 r × SFits w64 (p +ℤ q) × SFits w64 (p +ℤ q +ℤ r) × (natAbs (p +ℤ q +ℤ r) ≤ sumMost)
@@ -97,16 +87,16 @@ sums p q r = rw (split p, split q, split r) (simp zs (omega arith))
 
 module _ (xs ys : List ℤ) (hx : Bounded R xs) (hy : Bounded componentMost ys) where
   product-le : (i : ℕ) → natAbs (product xs ys i) ≤ R * componentMost
-  product-le i = abs-*-le (at xs i) (at ys i) R componentMost (hx i) (hy i)
+  product-le i = abs-*-le (nth xs i) (nth ys i) R componentMost (hx i) (hy i)
 
   pub sums-fit : Sums (product xs ys 0) (product xs ys 1) (product xs ys 2)
   sums-fit = sums (product xs ys 0) (product xs ys 1) (product xs ys 2) (product-le 0) (product-le 1) (product-le 2)
 
-  pub entry-fits : (i : ℕ) → SFits w64 (at xs i)
-  entry-fits i = fits-le R (at xs i) (hx i) refl
+  pub entry-fits : (i : ℕ) → SFits w64 (nth xs i)
+  entry-fits i = fits-le R (nth xs i) (hx i) refl
 
-  pub component-fits : (i : ℕ) → SFits w64 (at ys i)
-  component-fits i = fits-le componentMost (at ys i) (hy i) refl
+  pub component-fits : (i : ℕ) → SFits w64 (nth ys i)
+  component-fits i = fits-le componentMost (nth ys i) (hy i) refl
 
 regroup : (p q r : ℤ) → p +ℤ q +ℤ r ≡ p +ℤ (q +ℤ (r +ℤ pos 0))
 regroup p q r = rw (split p, split q, split r) (simp zs (omega arith))

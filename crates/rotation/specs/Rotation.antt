@@ -1,9 +1,9 @@
--- Document 01, "Polaris": R1, R2 and R3, and a direction turned by one of them. A direction is its three components, a turn its three rows.
--- Assumes nothing.
+-- Document 01, "Polaris" (RULES.md, "Rotations"): R1, R2 and R3, and a direction rotated by one of them. A direction is its three components, a rotation its
+-- three rows.
 use mathlib.Core.List.{List, [], _∷_, map}
 use lib.IntN.{ℤ, pos, negℤ, _+ℤ_, _*ℤ_}
-use Rattle.exact.specs.Angle.{reduced}
-use Rattle.exact.specs.Division.{nearest}
+use Rattle.exact.specs.Reduction.{reduced}
+use Rattle.exact.specs.Division.{nearestDiv}
 use Rattle.sine.specs.Sine.{R, Sin, Cos}
 
 -- the sum of the products of a row and a direction
@@ -12,19 +12,19 @@ dot [] ys = pos 0
 dot (x ∷ xs) [] = pos 0
 dot (x ∷ xs) (y ∷ ys) = x *ℤ y +ℤ dot xs ys
 
--- a component is the sum of its row's products, divided by R and rounded once. The axis' own row has R in its place, so that its component
--- stays (`turned-1`).
-unfoldable pub turned : List (List ℤ) → List ℤ → List ℤ
-turned m d = map (λ row. nearest (dot row d) R) m
+-- a component is the sum of its row's products, divided by R and rounded once. The axis' own row has R where the axis stands, so that its
+-- component stays (`rotated-1`).
+unfoldable pub rotated : List (List ℤ) → List ℤ → List ℤ
+rotated m d = map (λ row. nearestDiv (dot row d) R) m
 
--- Sin and Cos of an angle that may lie outside of a turn
+-- Sin and Cos of an angle that need not be reduced
 abbrev pub sinOf : ℤ → ℤ
 sinOf a = Sin (reduced a)
 
 abbrev pub cosOf : ℤ → ℤ
 cosOf a = Cos (reduced a)
 
--- R1(a), the turn about the first axis
+-- R1(a), about the first axis
 unfoldable pub rotation1 : ℤ → List (List ℤ)
 rotation1 a =
     (pos R ∷ pos 0 ∷ pos 0 ∷ [])

@@ -1,21 +1,20 @@
-// Directions and their turns: document 01, "Polaris". A direction has three components in units of 1 / 1,000,000,000; a turn has three rows.
-// Both go by value.
+// Directions and their rotations: document 01, "Polaris". A direction has three components in units of 1 / 1,000,000,000; a rotation has
+// three rows. Both go by value.
+use sine::RADIUS;
+use sine::SineTable;
 ghost use mathlib.Core.Path.{_≡_};
 ghost use Prim.Native.Nat.{_+_, _≤_, _^_};
 ghost use lib.IntN.{natAbs, negℤ};
 ghost use Rattle.sine.specs.Sine.{R, entries};
-ghost use Rattle.rotation.specs.Rotation.{dot, turned, sinOf, cosOf, rotation1, rotation2, rotation3};
-ghost use Rattle.rotation.specs.Length.{Bounded, Rotation, squaredLength, reach, growth, componentMost, sumMost};
-use sine::SineTable;
+ghost use Rattle.rotation.specs.Rotation.{dot, rotated, sinOf, cosOf, rotation1, rotation2, rotation3};
+ghost use Rattle.rotation.specs.Length.{Rotation, squaredLength, growth};
+ghost use Rattle.rotation.specs.Sizes.{Bounded, reach, componentMost, sumMost};
 
 // A direction's components x, y, z.
 pub type Direction = [i64; 3];
 
-// A turn's rows, one for each component of the turned direction.
-pub type Turn = [[i64; 3]; 3];
-
-// What a component of one is scaled to.
-pub const RADIUS: i64 = 1_000_000_000;
+// A rotation's rows, one for each component of the rotated direction.
+pub type Matrix = [[i64; 3]; 3];
 
 // The cosine and the sine of an angle, and the sine with its sign changed.
 struct Sines {
@@ -37,8 +36,8 @@ fn sines_of(t: &SineTable, a: i64) -> Sines
     }
 }
 
-// R1(a): a turn by a, in units of 0.0001 second of arc, about the first axis.
-pub fn about_x(t: &SineTable, a: i64) -> Turn
+// R1(a): the rotation by a, in units of 0.0001 second of arc, about the first axis.
+pub fn rotation1(t: &SineTable, a: i64) -> Matrix
     requires { ⌜ (now t ≡ entries) × (natAbs a ≤ 2 ^ 61) ⌝ }
     ensures { λ r. ⌜ (r ≡ rotation1 a) × Rotation r ⌝ }
 {
@@ -46,8 +45,8 @@ pub fn about_x(t: &SineTable, a: i64) -> Turn
     [[RADIUS, 0, 0], [0, k.cos, k.sin], [0, k.minus, k.cos]]
 }
 
-// R2(a): a turn by a about the second axis.
-pub fn about_y(t: &SineTable, a: i64) -> Turn
+// R2(a): the rotation by a about the second axis.
+pub fn rotation2(t: &SineTable, a: i64) -> Matrix
     requires { ⌜ (now t ≡ entries) × (natAbs a ≤ 2 ^ 61) ⌝ }
     ensures { λ r. ⌜ (r ≡ rotation2 a) × Rotation r ⌝ }
 {
@@ -55,8 +54,8 @@ pub fn about_y(t: &SineTable, a: i64) -> Turn
     [[k.cos, 0, k.minus], [0, RADIUS, 0], [k.sin, 0, k.cos]]
 }
 
-// R3(a): a turn by a about the third axis.
-pub fn about_z(t: &SineTable, a: i64) -> Turn
+// R3(a): the rotation by a about the third axis.
+pub fn rotation3(t: &SineTable, a: i64) -> Matrix
     requires { ⌜ (now t ≡ entries) × (natAbs a ≤ 2 ^ 61) ⌝ }
     ensures { λ r. ⌜ (r ≡ rotation3 a) × Rotation r ⌝ }
 {
@@ -72,10 +71,10 @@ fn dot(row: [i64; 3], d: Direction) -> i64
     row[0] * d[0] + row[1] * d[1] + row[2] * d[2]
 }
 
-// The direction d, turned by m: each component the exact sum of a row, to nearest. It is hardly longer than d.
-pub fn apply(m: Turn, d: Direction) -> Direction
+// The direction d, rotated by m: each component the exact sum of a row, to nearest. It is hardly longer than d.
+pub fn rotated(m: Matrix, d: Direction) -> Direction
     requires { ⌜ Rotation m × (squaredLength d ≤ reach) ⌝ }
-    ensures { λ r. ⌜ (r ≡ turned m d) × (squaredLength r ≤ squaredLength d + growth) ⌝ }
+    ensures { λ r. ⌜ (r ≡ rotated m d) × (squaredLength r ≤ squaredLength d + growth) ⌝ }
 {
     let x = exact::nearest_div(dot(m[0], d), RADIUS);
     let y = exact::nearest_div(dot(m[1], d), RADIUS);

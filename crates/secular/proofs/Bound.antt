@@ -1,5 +1,4 @@
 -- How large a value is, for any coefficients: one law for an addend, and the sum of the three.
--- Assumes nothing.
 use Prim.Native.Nat.{ℕ, _+_, _*_, _≤_, _<_, _^_}
 use native.Mathlib.Nat.{le-refl, le-trans, mul-le-mul-left}
 use native.Mathlib.Omega.{arith}
@@ -10,21 +9,21 @@ use Rattle.exact.specs.Division.{floorDiv}
 use Rattle.exact.proofs.Differences.{split, zs, abs-dif}
 use Rattle.exact.proofs.Division.{floor-abs}
 use Rattle.exact.proofs.Integers.{abs-*, abs-*-le}
-use Rattle.secular.specs.Polynomial.{value}
-use Rattle.secular.specs.Sizes.{largest, most}
+use Rattle.secular.specs.FlooredPolynomial.{value}
+use Rattle.secular.specs.Sizes.{mostMillionths, most}
 use Rattle.secular.specs.declared.Polynomial.{Polynomial}
 
 -- floor(c·z/d), where z is at most m times d: x for a million, its square for a million squared, its cube likewise
 pub addend-le : (c z : ℤ) (d m : ℕ) → 0 < d → natAbs z ≤ m * d → natAbs (floorDiv (c *ℤ z) d) ≤ m * natAbs c
 addend-le c z d m h k = floor-abs (c *ℤ z) d (m * natAbs c) h (rw (abs-* c z) (le-trans (mul-le-mul-left (natAbs c) k) (omega arith)))
 
-pub square-le : (x : ℤ) → natAbs x ≤ largest → natAbs (x *ℤ x) ≤ largest * largest
-square-le x h = abs-*-le x x largest largest h h
+pub square-le : (x : ℤ) → natAbs x ≤ mostMillionths → natAbs (x *ℤ x) ≤ mostMillionths * mostMillionths
+square-le x h = abs-*-le x x mostMillionths mostMillionths h h
 
 divisor-low : (d : ℤ) → pos (10 ^ 12) ≤ℤ d → 10 ^ 12 ≤ natAbs d
 divisor-low d = rw (split d) (simp (zs, abs-dif) (omega arith))
 
-module _ (c : Polynomial) (x : ℤ) (h : natAbs x ≤ largest) (low : pos (10 ^ 12) ≤ℤ c .divisor) where
+module _ (c : Polynomial) (x : ℤ) (h : natAbs x ≤ mostMillionths) (low : pos (10 ^ 12) ≤ℤ c .divisor) where
   pub linear-le : natAbs (floorDiv (c .c1 *ℤ x) (10 ^ 6)) ≤ 2 * natAbs (c .c1)
   linear-le = addend-le (c .c1) x (10 ^ 6) 2 (lit< tt) (omega arith)
 

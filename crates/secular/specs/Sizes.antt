@@ -1,7 +1,6 @@
 -- How large a floored polynomial may be, so that no step of it leaves 64 bits: all those of the papers are smaller.
--- Assumes nothing.
 use Prim.Native.Nat.{ℕ, _+_, _*_, _≤_, _^_}
-use lib.IntN.{ℤ, pos, natAbs}
+use lib.IntN.{pos, natAbs}
 use lib.Signed.{_≤ℤ_}
 use Rattle.secular.specs.declared.Polynomial.{Polynomial}
 
@@ -13,8 +12,8 @@ pub record Sized (c : Polynomial) : Type 0 where
   pub high : c .divisor ≤ℤ pos (2 * 10 ^ 12)
 
 -- the largest x, in millionths: a century and a half
-abbrev pub largest : ℕ
-largest = 1_500_000
+abbrev pub mostMillionths : ℕ
+mostMillionths = 1_500_000
 
 -- the most that a value can be for such an x, of whatever sign
 unfoldable pub most : Polynomial → ℕ

@@ -1,15 +1,14 @@
 -- A cosine is a term whose phase is a quadrant more: document 01 has Cos(a) = Sin(a + Q), and any angle is reduced first.
--- Assumes nothing.
 use mathlib.Core.Path.{_≡_, sym, ap, _∙_}
 use mathlib.Core.List.{List}
 use native.Mathlib.Omega.{arith}
 use lib.IntN.{ℤ, pos, _+ℤ_, _*ℤ_}
-use Rattle.exact.specs.Angle.{Q, reduced}
+use Rattle.exact.specs.Reduction.{Q, reduced}
 use Rattle.exact.proofs.Differences.{split, zs}
-use Rattle.exact.proofs.Turn.{reduced-part}
+use Rattle.exact.proofs.Reduction.{reduced-part}
 use Rattle.sine.specs.Sine.{Sin, Cos}
 use Rattle.series.specs.Term.{Part, amplitudeOf, part, angleOf, value}
-use Rattle.series.specs.Written.{term}
+use Rattle.series.specs.Notation.{term}
 
 pub cosine-is : (z : ℤ) → Sin (reduced (z +ℤ pos Q)) ≡ Cos (reduced z)
 unfolding Cos

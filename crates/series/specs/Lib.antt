@@ -1,5 +1,5 @@
 pub mod Term
 pub mod Sum
-pub mod Written
+pub mod Notation
 pub mod Rows
 pub mod Sizes

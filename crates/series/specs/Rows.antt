@@ -1,25 +1,23 @@
--- Terms as rows of whole numbers, laid out for the sum. What rows stand for is a list of terms like any other (law `steady-value`).
--- Assumes nothing.
-use Prim.Native.Nat.{ℕ}
+-- Terms as rows of whole numbers, laid out for the sum. What the rows of a series stand for is a list of terms like any other (`terms`), and a row's
+-- amplitude times the sine of its angle is the value of its term (law `steady-value`).
 use mathlib.Core.Bool.{Bool, true, false}
 use mathlib.Core.List.{List, [], _∷_, _++_, map}
+use Prim.Native.Nat.{ℕ}
 use lib.Dec.{eqb}
 use lib.IntN.{ℤ, pos, natAbs, _+ℤ_, _*ℤ_}
 use lib.ListN.{getD, take, drop}
+use Rattle.exact.specs.Nth.{nth}
 use Rattle.series.specs.Term.{Part, Term}
-use Rattle.series.specs.Written.{term, none}
+use Rattle.series.specs.Notation.{term, none}
 
-abbrev pub number : List ℤ → ℕ → ℤ
-number row i = getD row i (pos 0)
+-- ---- a steady amplitude: amplitude, phase, and the multiples of the three arguments of the row's group
 
--- ---- a steady amplitude: amplitude, phase, and the multiples of the arguments of the row's group
-
--- the parts of a row whose arguments stand at i, j, k
+-- the parts of a row whose arguments have the indices i, j, k
 abbrev pub parts : ℕ → ℕ → ℕ → List ℤ → List Part
 parts i j k row =
-    record { times = number row 2; place = i }
-    ∷ record { times = number row 3; place = j }
-    ∷ record { times = number row 4; place = k }
+    record { times = nth row 2; index = i }
+    ∷ record { times = nth row 3; index = j }
+    ∷ record { times = nth row 4; index = k }
     ∷ []
 
 -- a part whose multiple is 0 is left out
@@ -32,31 +30,35 @@ kept [] = []
 kept (p ∷ ps) = keep (eqb (natAbs (p .times)) 0) p (kept ps)
 
 abbrev pub withParts : List ℤ → List Part → Term
-withParts row ps = term (number row 0) (pos 0) (pos 0) (number row 1) (getD ps 0 none) (getD ps 1 none) (getD ps 2 none)
+withParts row ps = term (nth row 0) (pos 0) (pos 0) (nth row 1) (getD ps 0 none) (getD ps 1 none) (getD ps 2 none)
 
 unfoldable pub steadyTerm : ℕ → ℕ → ℕ → List ℤ → Term
 steadyTerm i j k row = withParts row (kept (parts i j k row))
 
 -- the angle itself, before it is reduced, where the arguments are a, b, c
 unfoldable pub steadyAngle : List ℤ → ℤ → ℤ → ℤ → ℤ
-steadyAngle row a b c = number row 1 +ℤ number row 2 *ℤ a +ℤ number row 3 *ℤ b +ℤ number row 4 *ℤ c
+steadyAngle row a b c = nth row 1 +ℤ nth row 2 *ℤ a +ℤ nth row 3 *ℤ b +ℤ nth row 4 *ℤ c
 
--- a group: the places of its three arguments, and how many rows it has
-abbrev pub place : List ℕ → ℕ → ℕ
-place group i = getD group i 0
+-- a group: the indices of its three arguments, and how many rows it has
+abbrev pub index : List ℕ → ℕ → ℕ
+index group i = getD group i 0
 
-abbrev pub count : List ℕ → ℕ
-count group = place group 3
+abbrev pub rowCount : List ℕ → ℕ
+rowCount group = getD group 3 0
 
 -- the terms of groups whose rows stand one after the other
 unfoldable pub steadyTerms : List (List ℕ) → List (List ℤ) → List Term
 steadyTerms [] rows = []
-steadyTerms (g ∷ gs) rows = map (steadyTerm (place g 0) (place g 1) (place g 2)) (take (count g) rows) ++ steadyTerms gs (drop (count g) rows)
+steadyTerms (g ∷ gs) rows = map (steadyTerm (index g 0) (index g 1) (index g 2)) (take (rowCount g) rows) ++ steadyTerms gs (drop (rowCount g) rows)
 
--- ---- a varying amplitude: c0, c1, c2, phase, and the multiple and place of one argument
+-- ---- a varying amplitude: c0, c1, c2, phase, and the multiple and index of one argument
 unfoldable pub varyingTerm : List ℤ → Term
 varyingTerm row =
-    term (number row 0) (number row 1) (number row 2) (number row 3) (record { times = number row 4; place = natAbs (number row 5) }) none none
+    term (nth row 0) (nth row 1) (nth row 2) (nth row 3) (record { times = nth row 4; index = natAbs (nth row 5) }) none none
 
 abbrev pub varyingTerms : List (List ℤ) → List Term
 varyingTerms rows = map varyingTerm rows
+
+-- ---- a series: the terms whose amplitudes vary, and then the others
+abbrev pub terms : List (List ℤ) → List (List ℕ) → List (List ℤ) → List Term
+terms varying groups rows = varyingTerms varying ++ steadyTerms groups rows

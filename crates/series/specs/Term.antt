@@ -1,19 +1,18 @@
--- Document 01, "The Sun": one term of a series, an amplitude times the sine of a phase and multiples of arguments.
--- A cosine is a term whose phase is a quadrant more, since 01 has Cos(a) = Sin(a + Q) (law `cosine-is`).
--- Assumes nothing.
-use Prim.Native.Nat.{ℕ, _^_}
+-- Document 01, "The Sun" (RULES.md, "The Sun", `term`): an amplitude times the sine of a phase with multiples of arguments. A cosine is a term whose
+-- phase has a quadrant more, since Cos(a) is Sin(a + Q) (law `cosine-term`).
 use mathlib.Core.List.{List}
+use Prim.Native.Nat.{ℕ, _^_}
 use lib.IntN.{ℤ, pos, _+ℤ_, _*ℤ_}
 use lib.ListN.{getD}
-use Rattle.exact.specs.Angle.{reduced}
-use Rattle.secular.specs.Polynomial as secular
+use Rattle.exact.specs.Reduction.{reduced}
+use Rattle.secular.specs.FlooredPolynomial as secular
 use Rattle.secular.specs.Sizes.{most}
 use Rattle.secular.specs.declared.Polynomial.{Polynomial}
 
--- a multiple of the argument at a place of the list of arguments
+-- a multiple of the argument that has an index in the list of arguments
 pub record Part : Type 0 where
   pub times : ℤ
-  pub place : ℕ
+  pub index : ℕ
 
 -- the amplitude's c0, c1, c2 and the phase in units
 pub record Term : Type 0 where
@@ -33,13 +32,13 @@ abbrev pub amplitudeOf : Term → ℤ → ℤ
 amplitudeOf t q = secular.value (amplitude t) q
 
 abbrev pub part : List ℤ → Part → ℤ
-part arguments p = p .times *ℤ getD arguments (p .place) (pos 0)
+part arguments p = p .times *ℤ getD arguments (p .index) (pos 0)
 
--- reduced before its sine is taken
+-- the angle, reduced before its sine is taken
 unfoldable pub angleOf : List ℤ → Term → ℕ
 angleOf arguments t = reduced (t .phase +ℤ part arguments (t .first) +ℤ part arguments (t .second) +ℤ part arguments (t .third))
 
--- the term with a function f in the sine's place
+-- the term with a function f for the sine
 unfoldable pub value : (ℕ → ℤ) → List ℤ → ℤ → Term → ℤ
 value f arguments q t = amplitudeOf t q *ℤ f (angleOf arguments t)
 

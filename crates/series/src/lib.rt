@@ -1,27 +1,26 @@
 // Series: sums of amplitudes times sines, for any list of terms. Document 01, "The Sun".
 //
 // A term whose amplitude is steady is a row of five numbers: amplitude and phase in units, and the multiples of three arguments. Rows
-// that share their arguments are a group, itself a row of four: the places of the arguments, and how many rows it has; the rows of all
+// that share their arguments are a group, itself a row of four: the indices of the arguments, and how many rows it has; the rows of all
 // groups stand one after the other. A term whose amplitude varies is a row of six: c0, c1, c2 and the phase in units, and the multiple
-// and the place of its one argument. A cosine is a term whose phase is a quadrant more.
+// and the index of its one argument. A cosine is a term whose phase is a quadrant more.
+use secular::Polynomial;
+use sine::SineTable;
 ghost use mathlib.Core.Path.{_≡_};
-ghost use mathlib.Core.List.{map, _++_};
+ghost use mathlib.Core.List.{map};
 ghost use Prim.Native.Nat.{ℕ, _*_, _≤_, _<_, _^_};
 ghost use lib.IntN.{ℤ, natAbs, _*ℤ_};
 ghost use lib.ListN.{length};
-ghost use Rattle.exact.specs.Division.{nearest};
-ghost use Rattle.exact.specs.Angle.{turn, reduced, Angles};
-ghost use Rattle.secular.specs.Sizes.{largest};
+ghost use Rattle.exact.specs.Division.{nearestDiv};
+ghost use Rattle.exact.specs.Reduction.{turn, reduced};
+ghost use Rattle.exact.specs.Nth.{nth};
+ghost use Rattle.exact.specs.Sizes.{AllReduced};
+ghost use Rattle.secular.specs.Sizes.{mostMillionths};
 ghost use Rattle.sine.specs.Sine.{R, entries, Sin};
 ghost use Rattle.series.specs.Term.{value};
 ghost use Rattle.series.specs.Sum.{total, tableSum, weights};
-ghost use Rattle.series.specs.Rows.{number, steadyAngle, steadyTerm, steadyTerms, varyingTerm, varyingTerms};
+ghost use Rattle.series.specs.Rows.{steadyAngle, steadyTerm, steadyTerms, varyingTerm, varyingTerms, terms};
 ghost use Rattle.series.specs.Sizes.{heaviest, AtMost, steadyBounds, GroupReady, SteadyReady, VaryingRow, VaryingReady};
-use secular::Polynomial;
-use sine::SineTable;
-
-// What a sine of one is scaled to: document 01's R.
-pub const RADIUS: i64 = 1_000_000_000;
 
 // An amplitude times the sine of an angle that need not be reduced.
 fn product(t: &SineTable, amplitude: i64, angle: i64) -> i64
@@ -34,12 +33,12 @@ fn product(t: &SineTable, amplitude: i64, angle: i64) -> i64
 // The product of a row whose arguments are a, b, c.
 fn steady_product(t: &SineTable, row: [i64; 5], a: i64, b: i64, c: i64) -> i64
     requires { ⌜ (now t ≡ entries) × AtMost steadyBounds row × (natAbs a < turn) × (natAbs b < turn) × (natAbs c < turn) ⌝ }
-    ensures { λ r. ⌜ r ≡ number row 0 *ℤ Sin (reduced (steadyAngle row a b c)) ⌝ }
+    ensures { λ r. ⌜ r ≡ nth row 0 *ℤ Sin (reduced (steadyAngle row a b c)) ⌝ }
 {
     product(t, row[0], row[1] + row[2] * a + row[3] * b + row[4] * c)
 }
 
-// The sum of the products of one group, whose arguments stand at i, j, k.
+// The sum of the products of one group, whose arguments have the indices i, j, k.
 fn group_sum(
     t: &SineTable,
     i: usize,
@@ -79,7 +78,7 @@ pub fn steady_sum(t: &SineTable, groups: &[[usize; 4]], rows: &[[i64; 5]], argum
 
 // The product of a row whose amplitude varies.
 fn varying_product(t: &SineTable, row: [i64; 6], arguments: &[i64], q: i64) -> i64
-    requires { ⌜ (now t ≡ entries) × Angles (now arguments) × (natAbs q ≤ largest) × VaryingRow (length (now arguments)) row ⌝ }
+    requires { ⌜ (now t ≡ entries) × AllReduced (now arguments) × (natAbs q ≤ mostMillionths) × VaryingRow (length (now arguments)) row ⌝ }
     ensures { λ r. ⌜ r ≡ value Sin (now (arguments .entry)) q (varyingTerm row) ⌝ }
 {
     let amplitude = Polynomial {
@@ -88,11 +87,11 @@ fn varying_product(t: &SineTable, row: [i64; 6], arguments: &[i64], q: i64) -> i
         c2: row[2],
         divisor: secular::SQUARE,
     };
-    let place = row[5] as usize;
+    let index = row[5] as usize;
     product(
         t,
         secular::value(amplitude, q),
-        row[3] + row[4] * arguments[place],
+        row[3] + row[4] * arguments[index],
     )
 }
 
@@ -118,7 +117,7 @@ pub fn sum(
     q: i64,
 ) -> i64
     requires { ⌜ VaryingReady (now t) (now varying) (now arguments) q × SteadyReady (now t) (now groups) (now rows) (now arguments) ⌝ }
-    ensures { λ r. ⌜ (r ≡ total Sin (now (arguments .entry)) q (varyingTerms (now (varying .entry)) ++ steadyTerms (now (groups .entry)) (now (rows .entry)))) × (natAbs r ≤ R * weights (varyingTerms (now (varying .entry)) ++ steadyTerms (now (groups .entry)) (now (rows .entry)))) ⌝ }
+    ensures { λ r. ⌜ (r ≡ total Sin (now (arguments .entry)) q (terms (now (varying .entry)) (now (groups .entry)) (now (rows .entry)))) × (natAbs r ≤ R * weights (terms (now (varying .entry)) (now (groups .entry)) (now (rows .entry)))) ⌝ }
 {
     varying_sum(t, varying, arguments, q) + steady_sum(t, groups, rows, arguments)
 }
@@ -126,9 +125,9 @@ pub fn sum(
 // A sum in units: one division by R, to nearest.
 pub fn rounded(sum: i64) -> i64
     requires { ⌜ natAbs sum ≤ R * heaviest ⌝ }
-    ensures { λ r. ⌜ (r ≡ nearest sum R) × ((k : ℕ) → natAbs sum ≤ R * k → natAbs r ≤ k) ⌝ }
+    ensures { λ r. ⌜ (r ≡ nearestDiv sum R) × ((k : ℕ) → natAbs sum ≤ R * k → natAbs r ≤ k) ⌝ }
 {
-    exact::nearest_div(sum, RADIUS)
+    exact::nearest_div(sum, sine::RADIUS)
 }
 
 // The sum of a series at q, in units.
@@ -140,8 +139,8 @@ pub fn rounded_sum(
     arguments: &[i64],
     q: i64,
 ) -> i64
-    requires { ⌜ VaryingReady (now t) (now varying) (now arguments) q × SteadyReady (now t) (now groups) (now rows) (now arguments) × (weights (varyingTerms (now varying) ++ steadyTerms (now groups) (now rows)) ≤ heaviest) ⌝ }
-    ensures { λ r. ⌜ (r ≡ tableSum (now (arguments .entry)) q (varyingTerms (now (varying .entry)) ++ steadyTerms (now (groups .entry)) (now (rows .entry)))) × (natAbs r ≤ weights (varyingTerms (now (varying .entry)) ++ steadyTerms (now (groups .entry)) (now (rows .entry)))) ⌝ }
+    requires { ⌜ VaryingReady (now t) (now varying) (now arguments) q × SteadyReady (now t) (now groups) (now rows) (now arguments) × (weights (terms (now varying) (now groups) (now rows)) ≤ heaviest) ⌝ }
+    ensures { λ r. ⌜ (r ≡ tableSum (now (arguments .entry)) q (terms (now (varying .entry)) (now (groups .entry)) (now (rows .entry)))) × (natAbs r ≤ weights (terms (now (varying .entry)) (now (groups .entry)) (now (rows .entry)))) ⌝ }
 {
     rounded(sum(t, varying, groups, rows, arguments, q))
 }

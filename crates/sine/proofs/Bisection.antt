@@ -5,16 +5,16 @@ use mathlib.Core.Bool.{Bool, true, false}
 use Prim.Native.Nat.{ℕ, suc, _-_, _*_, _≤_, _<_, zero-le}
 use native.Mathlib.Nat.{mul-le-mul-left, le-trans, mul-zero}
 use native.Mathlib.Omega.{arith}
-use borrow.Author.Tests.{le-leb, leb-true}
 use lib.Dec.{leb}
 use lib.IntN.{pos, _*ℤ_}
 use lib.Signed.{leZ}
-use Rattle.exact.specs.Angle.{Q}
+use borrow.Author.Tests.{le-leb, leb-true}
+use Rattle.exact.specs.Reduction.{Q}
 use Rattle.exact.proofs.Largest.{largest-is}
 use Rattle.sine.specs.Sine.{sinQuadrant}
-use Rattle.sine.specs.Angle.{passes, first}
+use Rattle.sine.specs.VectorAngle.{passes, quadrantAngle}
 use Rattle.sine.proofs.Quadrant.{sin-zero}
-use Rattle.sine.proofs.Turned.{sin-1, cos-1}
+use Rattle.sine.proofs.Extension.{sin-1, cos-1}
 use Rattle.sine.proofs.Monotonicity.{sin-climbs}
 
 pub passes-is : (x y a : ℕ) → a ≤ Q → passes x y a ≡ leb (x * sinQuadrant a) (y * sinQuadrant (Q - a))
@@ -41,6 +41,6 @@ fails-above x y a b h k p = by (passes x y b) refl
     by true e = sym (passes-below x y a b h k e) ∙ p
     by false e = refl
 
-pub first-is : (x y a : ℕ) → a < Q → passes x y a ≡ true → (suc a < Q → passes x y (suc a) ≡ false) → first x y ≡ a
-unfolding first
-first-is x y a h t f = largest-is (passes x y) Q a h t (λ b u v. fails-above x y (suc a) b u (omega arith) (f (omega arith)))
+pub quadrant-angle-is : (x y a : ℕ) → a < Q → passes x y a ≡ true → (suc a < Q → passes x y (suc a) ≡ false) → quadrantAngle x y ≡ a
+unfolding quadrantAngle
+quadrant-angle-is x y a h t f = largest-is (passes x y) Q a h t (λ b u v. fails-above x y (suc a) b u (omega arith) (f (omega arith)))

@@ -4,6 +4,7 @@ use mathlib.Core.Path.{_≡_, sym, ap, _∙_, subst, subst₂}
 use Prim.Native.Nat.{ℕ, zero, suc, _+_, _*_, _^_, _≤_, zero-le}
 use native.Mathlib.Nat.{pow-zero, pow-suc, pow-le-pow-left, mul-le-mul, mul-le-mul-left, le-trans, le-of-eq, add-le-add}
 use native.Mathlib.Omega.{arith}
+use Rattle.exact.proofs.Products.{four}
 
 -- ---- bounds that antt computes: x is at least t₁, h is c · s, k is c · s · s
 
@@ -14,13 +15,6 @@ gap-bound h x (suc m) = x * gap-bound h x m + h * x ^ m
 abbrev pub over-bound : ℕ → ℕ → ℕ → ℕ → ℕ
 over-bound k h x zero = 0
 over-bound k h x (suc m) = x * over-bound k h x m + k * gap-bound h x m
-
--- ---- four times a product is at most the square of the sum
-
-pub four : (u v : ℕ) → 4 * (u * v) ≤ (u + v) * (u + v)
-four zero v = omega arith
-four (suc u) zero = omega arith
-four (suc u) (suc v) = omega (arith, four u v)
 
 -- ---- the steps of the inductions, in plain numbers
 

@@ -1,12 +1,10 @@
 -- The theorems: `SineBound` (demand 3, first half), `Monotonicity` (Sin does not fall on 0..Q, Cos does not rise), `Pythagoras` (Sin² + Cos² is close to R²).
--- What they stand on. `Nearest`, `Every`: of `nearestℕ`, and of tests over many numbers; `Rule`: the table's entries; `Quadrant`, `Turned`: Sin and Cos on
--- 0..Q and over the turn; `Chord`, `Terms`, `Rounding`: powers, the polynomial's terms and a table's roundings; `Squares`: sums of squares along a chord.
+-- What they stand on. `TableRule`: the table's entries; `Quadrant`, `Extension`: Sin and Cos on 0..Q and over the turn; `Chord`, `Terms`, `Rounding`: powers, the
+-- polynomial's terms and a table's roundings; `Squares`: sums of squares along a chord.
 -- For the angle of a vector. `Bisection`: the search; `Signs`: the quadrants by the components' signs.
-pub mod Nearest
-pub mod Every
-pub mod Rule
+pub mod TableRule
 pub mod Quadrant
-pub mod Turned
+pub mod Extension
 pub mod Monotonicity
 pub mod Chord
 pub mod Terms

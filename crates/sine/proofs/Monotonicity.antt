@@ -6,21 +6,21 @@ use native.Mathlib.Omega.{arith}
 use lib.Dec.{lit<, le→leb}
 use lib.IntN.{ℤ, natAbs}
 use lib.Signed.{_≤ℤ_}
-use Rattle.exact.specs.Angle.{Q, turn}
+use Rattle.exact.specs.Reduction.{Q, turn}
 use Rattle.exact.proofs.Integers.{abs-neg}
+use Rattle.exact.proofs.Division.{nearest-mono}
+use Rattle.exact.proofs.AllBelow.{climbs}
 use Rattle.sine.specs.Step.{step}
-use Rattle.sine.specs.Sine.{R, entry, sinQuadrant, Sin, Cos}
-use Rattle.sine.proofs.Nearest.{nearest-mono}
-use Rattle.sine.proofs.Every.{climbs}
-use Rattle.sine.proofs.Rule.{entry-climbs}
+use Rattle.sine.specs.Sine.{R, entryAt, sinQuadrant, Sin, Cos}
+use Rattle.sine.proofs.TableRule.{entry-climbs}
 use Rattle.sine.proofs.Quadrant.{sin-at, sin-top}
-use Rattle.sine.proofs.Turned.{on-turn, sin-1, cos-1, folded}
+use Rattle.sine.proofs.Extension.{on-turn, sin-1, cos-1, folded}
 
 -- one unit further in an interval
 step-on : (n u v : ℕ) → suc u + v ≡ step → n < Q / step → sinQuadrant (step * n + v) ≤ sinQuadrant (step * n + suc v)
 step-on n u v e h =
     rw (sin-at n (suc u) v e h, sin-at n u (suc v) (omega arith) h)
-    (nearest-mono (lit< tt) (shift (entry n) (entry (suc n)) (entry-climbs n (suc n) (omega arith) h)))
+    (nearest-mono (lit< tt) (shift (entryAt n) (entryAt (suc n)) (entry-climbs n (suc n) (omega arith) h)))
   where
     shift : (low high : ℕ) → low ≤ high → low * suc u + high * v ≤ low * u + high * suc v
     shift low high h = omega arith
@@ -38,7 +38,7 @@ sin-climbs = climbs sinQuadrant Q next
 pub sin-le : (a : ℕ) → a ≤ Q → sinQuadrant a ≤ R
 sin-le a h = rw sin-top at (sin-climbs a Q h (le-refl Q))
 
--- ---- THE ORDER OF SIN AND COS ON 0..Q
+-- ---- the order of Sin and Cos on 0..Q
 pub sin-does-not-fall : (a b : ℕ) → a ≤ b → b ≤ Q → Sin a ≤ℤ Sin b
 sin-does-not-fall a b h k = rw (sin-1 a (omega arith), sin-1 b k) (record { le = le→leb _ _ (sin-climbs a b h k) })
 

@@ -6,27 +6,27 @@ use Prim.Native.Nat.{ℕ, suc, _+_, _-_, _*_, _/_, _%_, _≤_, _<_}
 use native.Mathlib.Nat.{add-zero, eq-or-lt-of-le}
 use native.Mathlib.Numerals.{add-one}
 use native.Mathlib.Omega.{arith}
-use borrow.Author.Tests.{lt-ltb}
 use lib.Dec.{lit<}
-use Rattle.exact.specs.Division.{nearestℕ}
-use Rattle.exact.specs.Angle.{Q}
+use borrow.Author.Tests.{lt-ltb}
+use Rattle.exact.specs.Division.{nearestDivℕ}
+use Rattle.exact.specs.Reduction.{Q}
+use Rattle.exact.proofs.Division.{nearest-whole}
 use Rattle.sine.specs.Step.{step}
-use Rattle.sine.specs.Sine.{R, entry, sinQuadrant}
-use Rattle.sine.proofs.Nearest.{nearest-whole}
-use Rattle.sine.proofs.Rule.{entry-first, entry-last}
+use Rattle.sine.specs.Sine.{R, entryAt, sinQuadrant}
+use Rattle.sine.proofs.TableRule.{entry-first, entry-last}
 
 -- v units past entry n and u before the next
 abbrev pub mix : ℕ → ℕ → ℕ → ℕ
-mix n u v = nearestℕ (entry n * u + entry (suc n) * v) step
+mix n u v = nearestDivℕ (entryAt n * u + entryAt (suc n) * v) step
 
-start-is : (n : ℕ) → mix n step 0 ≡ entry n
-start-is n = ap (λ (k : ℕ). nearestℕ k step) (mean (entry n) (entry (suc n)) step) ∙ nearest-whole (entry n) (lit< tt)
+start-is : (n : ℕ) → mix n step 0 ≡ entryAt n
+start-is n = ap (λ (k : ℕ). nearestDivℕ k step) (mean (entryAt n) (entryAt (suc n)) step) ∙ nearest-whole (entryAt n) (lit< tt)
   where
     mean : (x y s : ℕ) → x * s + y * 0 ≡ x * s
     mean x y s = omega arith
 
-end-is : (n : ℕ) → mix n 0 step ≡ entry (suc n)
-end-is n = ap (λ (k : ℕ). nearestℕ k step) (mean (entry n) (entry (suc n)) step) ∙ nearest-whole (entry (suc n)) (lit< tt)
+end-is : (n : ℕ) → mix n 0 step ≡ entryAt (suc n)
+end-is n = ap (λ (k : ℕ). nearestDivℕ k step) (mean (entryAt n) (entryAt (suc n)) step) ∙ nearest-whole (entryAt (suc n)) (lit< tt)
   where
     mean : (x y s : ℕ) → x * 0 + y * s ≡ y * s
     mean x y s = omega arith
@@ -45,13 +45,13 @@ pub sin-top : sinQuadrant Q ≡ R
 unfolding sinQuadrant
 sin-top = refl
 
-at-entry : (n : ℕ) → n ≤ Q / step → sinQuadrant (step * n) ≡ entry n
+at-entry : (n : ℕ) → n ≤ Q / step → sinQuadrant (step * n) ≡ entryAt n
 at-entry n h = ⊎-elim last below (eq-or-lt-of-le h)
   where
-    last : n ≡ Q / step → sinQuadrant (step * n) ≡ entry n
+    last : n ≡ Q / step → sinQuadrant (step * n) ≡ entryAt n
     last e = rw e (sin-top ∙ sym entry-last)
 
-    below : n < Q / step → sinQuadrant (step * n) ≡ entry n
+    below : n < Q / step → sinQuadrant (step * n) ≡ entryAt n
     below l = ap sinQuadrant (sym (add-zero (step * n))) ∙ inside n step 0 (omega arith) (lit< tt) (omega arith) ∙ start-is n
 
 pub sin-zero : sinQuadrant 0 ≡ 0
@@ -68,7 +68,7 @@ sin-at n u v e h = ⊎-elim end (λ l. inside n u v e l (omega arith)) (eq-or-lt
         rw (next, l, z) (at-entry (suc n) h ∙ sym (end-is n))
 
 -- every angle lies in an interval
-pub record Placed (a : ℕ) : Type 0 where
+pub record InInterval (a : ℕ) : Type 0 where
   pub n : ℕ
   pub u : ℕ
   pub v : ℕ
@@ -76,11 +76,11 @@ pub record Placed (a : ℕ) : Type 0 where
   pub low : n < Q / step
   pub is : a ≡ step * n + v
 
-pub placed : (a : ℕ) → a ≤ Q → Placed a
-placed a h = ⊎-elim last below (eq-or-lt-of-le h)
+pub in-interval : (a : ℕ) → a ≤ Q → InInterval a
+in-interval a h = ⊎-elim last below (eq-or-lt-of-le h)
   where
-    last : a ≡ Q → Placed a
+    last : a ≡ Q → InInterval a
     last e = record { n = Q / step - 1; u = 0; v = step; parts = omega arith; low = omega arith; is = omega arith }
 
-    below : a < Q → Placed a
+    below : a < Q → InInterval a
     below l = record { n = a / step; u = step - a % step; v = a % step; parts = omega arith; low = omega arith; is = omega arith }

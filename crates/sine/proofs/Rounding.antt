@@ -1,10 +1,10 @@
--- The arithmetic of an interpolated table, in plain numbers, for any step s = u + v, radius r, denominator den and promise b. T and T′ are two entries, nearest
+-- The arithmetic of an interpolated table, in plain numbers, for any step s = u + v, radius r, denominator den and tolerance b. T and T′ are two entries, nearest
 -- to r·p / den and r·p′ / den; S is nearest to their mean; q is what lies between p and p′, and four times it is at most h / s from four times their mean.
 use mathlib.Core.Path.{_≡_, ap}
 use Prim.Native.Nat.{ℕ, _+_, _*_, _≤_, _<_}
 use native.Mathlib.Nat.{mul-le-mul-left, le-of-mul-le-mul-left}
 use native.Mathlib.Omega.{arith}
-use Rattle.sine.proofs.Nearest.{Rounds}
+use Rattle.exact.proofs.Division.{Rounds}
 
 -- x and y are at most k apart
 abbrev pub Apart : ℕ → ℕ → ℕ → Type 0

@@ -5,12 +5,8 @@ use mathlib.Core.Path.{_≡_, ap}
 use Prim.Native.Nat.{ℕ, _+_, _*_, _≤_, _<_}
 use native.Mathlib.Nat.{mul-le-mul, mul-le-mul-left, mul-le-mul-right, le-of-suc-le-suc, le-of-mul-le-mul-left, lt-of-mul-lt-mul-left, mul-pos}
 use native.Mathlib.Omega.{arith}
-use Rattle.sine.proofs.Nearest.{Rounds}
-use Rattle.sine.proofs.Chord.{four}
-
--- 2·e·f ≤ e² + f²
-twice : (e f : ℕ) → 2 * (e * f) ≤ e * e + f * f
-twice e f = omega (arith, four e f)
+use Rattle.exact.proofs.Products.{four, twice}
+use Rattle.exact.proofs.Division.{Rounds}
 
 convex : (s u v e e′ : ℕ) → u + v ≡ s → (e * u + e′ * v) * (e * u + e′ * v) ≤ s * (e * e * u + e′ * e′ * v)
 convex s u v e e′ p = rw (← p) (omega (arith, mul-le-mul-left (u * v) (twice e e′)))

@@ -6,8 +6,8 @@ use Prim.Native.Nat.{ℕ, suc, _+_, _*_, _^_, _≤_, zero-le}
 use native.Mathlib.Nat.{pow-suc, mul-le-mul, mul-le-mul-left, mul-le-mul-right, le-trans, le-of-eq, mul-add}
 use native.Mathlib.Omega.{arith}
 use lib.Dec.{T, leb, leb→le}
-use Rattle.exact.specs.Angle.{Q}
-use Rattle.sine.specs.Polynomial.{arc, whole, cofactor, term, terms, plus, minus}
+use Rattle.exact.specs.Reduction.{Q}
+use Rattle.sine.specs.SinePolynomial.{arc, whole, cofactor, term, terms, plus, minus}
 use Rattle.sine.proofs.Chord.{t, t₁, over, chord, over-le, over-bound}
 
 -- ---- chords

@@ -1,5 +1,5 @@
 pub mod Step
-pub mod Polynomial
+pub mod SinePolynomial
 pub mod Sine
-pub mod Angle
-pub mod Promises
+pub mod VectorAngle
+pub mod SineContract

@@ -1,58 +1,57 @@
--- Document 01, "The sine": the table, Sin and Cos, and P over the whole turn. An angle is reduced, in units of 0.0001 second of arc.
--- Assumes nothing.
+-- Document 01, "The sine" (RULES.md, "The sine"): the table, Sin and Cos, and P over the whole turn. An angle is reduced, in units of 0.0001″.
 use mathlib.Core.Bool.{cond}
 use mathlib.Core.List.{List, [], _∷_}
 use Prim.Native.Nat.{ℕ, zero, suc, _+_, _-_, _*_, _/_, _%_}
 use lib.Dec.{leb, ltb}
 use lib.IntN.{ℤ, pos, negℤ}
-use Rattle.exact.specs.Division.{nearestℕ}
-use Rattle.exact.specs.Angle.{Q, reduced}
+use Rattle.exact.specs.Division.{nearestDivℕ}
+use Rattle.exact.specs.Reduction.{Q, reduced}
 use Rattle.sine.specs.Step.{step}
-use Rattle.sine.specs.Polynomial.{polyNum, polyDen}
+use Rattle.sine.specs.SinePolynomial.{polyNum, polyDen}
 
 -- 01's R: what a sine of one is scaled to
 abbrev pub R : ℕ
 R = 1_000_000_000
 
--- "Entry n is the nearest whole number to R·P(3,000,000·n)"
-unfoldable pub entry : ℕ → ℕ
-entry n = nearestℕ (R * polyNum (step * n)) polyDen
+-- the table's n-th number: R·P at n steps, to nearest
+unfoldable pub entryAt : ℕ → ℕ
+entryAt n = nearestDivℕ (R * polyNum (step * n)) polyDen
 
--- "A table of 1,081 entries, one for each 5′ from 0° to 90°"
-abbrev pub count : ℕ
-count = Q / step + 1
+-- one at each step of a quadrant, both ends included: 1,081
+abbrev pub entryCount : ℕ
+entryCount = Q / step + 1
 
 -- the entries n, n + 1, .. , k of them
 unfoldable pub entriesFrom : ℕ → ℕ → List ℕ
 entriesFrom n zero = []
-entriesFrom n (suc k) = entry n ∷ entriesFrom (suc n) k
+entriesFrom n (suc k) = entryAt n ∷ entriesFrom (suc n) k
 
 unfoldable pub entries : List ℕ
-entries = entriesFrom 0 count
+entries = entriesFrom 0 entryCount
 
 -- the share of r units of a step on the way from `low` to `high`, to nearest
 abbrev pub interpolated : ℕ → ℕ → ℕ → ℕ
-interpolated low high r = nearestℕ (low * (step - r) + high * r) step
+interpolated low high r = nearestDivℕ (low * (step - r) + high * r) step
 
--- Sin on 0..Q: "For a = 3,000,000·n + r with r below 3,000,000, Sin(a) is nearest((entry n·(3,000,000 − r) + entry n+1·r)/3,000,000); at Q it is R."
+-- Sin on 0..Q: on the straight line between the two entries around a, and R at the end
 unfoldable pub sinQuadrant : ℕ → ℕ
-sinQuadrant a = cond (ltb a Q) (interpolated (entry (a / step)) (entry (a / step + 1)) (a % step)) R
+sinQuadrant a = cond (ltb a Q) (interpolated (entryAt (a / step)) (entryAt (a / step + 1)) (a % step)) R
 
--- f, given on 0..Q, on the first half turn: "From Q to 2Q, Sin(a) = Sin(2Q − a)"
+-- f, given on 0..Q, on the first half of the turn: the second quadrant mirrors the first
 abbrev pub half : (ℕ → ℕ) → ℕ → ℕ
 half f a = cond (leb a Q) (f a) (f (2 * Q - a))
 
--- and on the turn: "in the second half Sin(a) = −Sin(a − 2Q)"
-abbrev pub turned : (ℕ → ℕ) → ℕ → ℤ
-turned f a = cond (leb a (2 * Q)) (pos (half f a)) (negℤ (pos (half f (a - 2 * Q))))
+-- and on the turn: the second half is the first with a minus
+abbrev pub extended : (ℕ → ℕ) → ℕ → ℤ
+extended f a = cond (leb a (2 * Q)) (pos (half f a)) (negℤ (pos (half f (a - 2 * Q))))
 
 unfoldable pub Sin : ℕ → ℤ
-Sin a = turned sinQuadrant a
+Sin a = extended sinQuadrant a
 
--- "P is extended the same way": its numerator over polyDen
+-- P over the turn: its numerator, over polyDen
 unfoldable pub polyAt : ℕ → ℤ
-polyAt a = turned polyNum a
+polyAt a = extended polyNum a
 
--- "Cos(a) = Sin(a + Q)"
+-- the sine a quadrant on
 unfoldable pub Cos : ℕ → ℤ
 Cos a = Sin (reduced (pos (a + Q)))

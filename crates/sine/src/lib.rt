@@ -1,34 +1,26 @@
 // The table sine and cosine, and the angle of a vector: document 01, "The sine".
 //
 // An angle is reduced, in units of 0.0001 second of arc; a sine is scaled to 1,000,000,000. The functions that read the table take it
-// lent: name it once, at the top, by `table()`, since that builds it. `sin_of`, `cos_of` and `angle_of` name it themselves.
+// lent: name it once, at the top, by `table()`, since that builds it.
 mod entries;
 
-ghost use mathlib.Core.Path.{_≡_};
-ghost use Prim.Native.Nat.{_+_, _-_, _*_, _≤_, _<_, _^_};
-ghost use lib.IntN.{natAbs};
-ghost use Rattle.exact.specs.Angle.{Q, turn};
-ghost use Rattle.sine.specs.Step.{step};
-ghost use Rattle.sine.specs.Sine.{R, entry, count, entries, interpolated, half, sinQuadrant, Cos};
-ghost use Rattle.sine.specs.Promises.{IsSine};
-ghost use Rattle.sine.specs.Angle.{passes, first, angle as angleOf};
 use entries::STEP;
 pub use entries::SineTable;
 pub use entries::table;
+ghost use mathlib.Core.Path.{_≡_};
+ghost use Prim.Native.Nat.{_+_, _-_, _*_, _≤_, _<_, _^_};
+ghost use lib.IntN.{natAbs};
+ghost use Rattle.exact.specs.Reduction.{Q, turn};
+ghost use Rattle.sine.specs.Step.{step};
+ghost use Rattle.sine.specs.Sine.{R, entryAt, entryCount, entries, interpolated, half, sinQuadrant, Cos};
+ghost use Rattle.sine.specs.SineContract.{IsSine};
+ghost use Rattle.sine.specs.VectorAngle.{passes, quadrantAngle, angle};
 
 // A quadrant, in units of 0.0001 second of arc.
 pub const QUADRANT: u64 = 3_240_000_000;
 
-// What a sine of one is scaled to.
-pub const RADIUS: u64 = 1_000_000_000;
-
-// The n-th entry of the table.
-fn entry_at(t: &SineTable, n: usize) -> u64
-    requires { ⌜ (now t ≡ entries) × (n < count) ⌝ }
-    ensures { λ r. ⌜ (r ≡ entry n) × (r ≤ R) ⌝ }
-{
-    wide(t[n])
-}
+// What 1 is scaled to, in sines and in the components of a direction: document 01's R.
+pub const RADIUS: i64 = 1_000_000_000;
 
 fn wide(x: u32) -> u64
     ensures { λ r. ⌜ r ≡ x ⌝ }
@@ -36,8 +28,16 @@ fn wide(x: u32) -> u64
     x as u64
 }
 
+// The n-th entry of the table.
+fn entry_at(t: &SineTable, n: usize) -> u64
+    requires { ⌜ (now t ≡ entries) × (n < entryCount) ⌝ }
+    ensures { λ r. ⌜ (r ≡ entryAt n) × (r ≤ R) ⌝ }
+{
+    wide(t[n])
+}
+
 // The number at r units of a step from low up to high, to nearest: low, and the share of what is between them.
-fn interpolate(low: u64, high: u64, r: u64) -> u64
+fn interpolated(low: u64, high: u64, r: u64) -> u64
     requires { ⌜ (low ≤ high) × (high ≤ R) × (r ≤ step) ⌝ }
     ensures { λ z. ⌜ z ≡ interpolated low high r ⌝ }
 {
@@ -51,13 +51,13 @@ fn sin_quadrant(t: &SineTable, a: u64) -> u64
 {
     if a < QUADRANT {
         let n = (a / STEP) as usize;
-        interpolate(entry_at(t, n), entry_at(t, n + 1), a % STEP)
+        interpolated(entry_at(t, n), entry_at(t, n + 1), a % STEP)
     } else {
-        RADIUS
+        RADIUS as u64
     }
 }
 
-// Sin on the first half turn, its end included: mirrored at a quadrant.
+// Sin on the first half of the turn, its end included: mirrored at a quadrant.
 fn sin_half(t: &SineTable, a: u64) -> u64
     requires { ⌜ (now t ≡ entries) × (a ≤ 2 * Q) ⌝ }
     ensures { λ r. ⌜ (r ≡ half sinQuadrant a) × (r ≤ R) ⌝ }
@@ -93,8 +93,8 @@ pub fn cos(t: &SineTable, a: u64) -> i64
     }
 }
 
-// Whether x·Sin(a) is at most y·Cos(a), for an angle of the first quadrant.
-fn passes_at(t: &SineTable, x: u64, y: u64, a: u64) -> bool
+// Whether the vector (x, y) lies at the angle a or beyond, all in the first quadrant.
+fn passes(t: &SineTable, x: u64, y: u64, a: u64) -> bool
     requires { ⌜ (now t ≡ entries) × (x ≤ 2 ^ 34) × (y ≤ 2 ^ 34) × (a ≤ Q) ⌝ }
     ensures { λ r. ⌜ r ≡ passes x y a ⌝ }
 {
@@ -102,15 +102,15 @@ fn passes_at(t: &SineTable, x: u64, y: u64, a: u64) -> bool
 }
 
 // The largest angle of the first quadrant that passes, by halves: every angle below one that passes does too.
-fn search(t: &SineTable, x: u64, y: u64) -> u64
+fn quadrant_angle(t: &SineTable, x: u64, y: u64) -> u64
     requires { ⌜ (now t ≡ entries) × (x ≤ 2 ^ 34) × (y ≤ 2 ^ 34) ⌝ }
-    ensures { λ r. ⌜ (r ≡ first x y) × (r < Q) ⌝ }
+    ensures { λ r. ⌜ (r ≡ quadrantAngle x y) × (r < Q) ⌝ }
 {
     let mut low: u64 = 0;
     let mut high: u64 = QUADRANT;
     while low + 1 < high {
         let mid = (low + high) / 2;
-        if passes_at(t, x, y, mid) {
+        if passes(t, x, y, mid) {
             low = mid;
         } else {
             high = mid;
@@ -119,53 +119,26 @@ fn search(t: &SineTable, x: u64, y: u64) -> u64
     low
 }
 
-// The angle of the vector (x, y), reduced: by the signs of its components, a search in the first quadrant and a turn by quarters.
+// The angle of the vector (x, y), reduced: by the signs of its components, a search in the first quadrant and whole quadrants.
 pub fn angle(t: &SineTable, x: i64, y: i64) -> u64
     requires { ⌜ (now t ≡ entries) × (natAbs x ≤ 2 ^ 34) × (natAbs y ≤ 2 ^ 34) ⌝ }
-    ensures { λ r. ⌜ (r ≡ angleOf x y) × (r < turn) ⌝ }
+    ensures { λ r. ⌜ (r ≡ angle x y) × (r < turn) ⌝ }
 {
     let p = exact::magnitude(x);
     let q = exact::magnitude(y);
     if x < 0 {
         if 0 < y {
-            QUADRANT + search(t, q, p)
+            QUADRANT + quadrant_angle(t, q, p)
         } else {
-            2 * QUADRANT + search(t, p, q)
+            2 * QUADRANT + quadrant_angle(t, p, q)
         }
     } else if y < 0 {
-        3 * QUADRANT + search(t, q, p)
+        3 * QUADRANT + quadrant_angle(t, q, p)
     } else if 0 < x {
-        search(t, p, q)
+        quadrant_angle(t, p, q)
     } else if 0 < y {
-        QUADRANT + search(t, q, p)
+        QUADRANT + quadrant_angle(t, q, p)
     } else {
         0
     }
-}
-
-// Sin of an angle from 0 to a turn, with a table of its own.
-pub fn sin_of(a: u64) -> i64
-    requires { ⌜ a ≤ turn ⌝ }
-    ensures { λ r. ⌜ IsSine a r ⌝ }
-{
-    let t = table();
-    sin(&t, a)
-}
-
-// Cos of a reduced angle, with a table of its own.
-pub fn cos_of(a: u64) -> i64
-    requires { ⌜ a < turn ⌝ }
-    ensures { λ r. ⌜ (r ≡ Cos a) × (natAbs r ≤ R) ⌝ }
-{
-    let t = table();
-    cos(&t, a)
-}
-
-// The angle of a vector, with a table of its own.
-pub fn angle_of(x: i64, y: i64) -> u64
-    requires { ⌜ (natAbs x ≤ 2 ^ 34) × (natAbs y ≤ 2 ^ 34) ⌝ }
-    ensures { λ r. ⌜ (r ≡ angleOf x y) × (r < turn) ⌝ }
-{
-    let t = table();
-    angle(&t, x, y)
 }

@@ -1,16 +1,16 @@
--- IN ANY CHUNKS: an input that comes in chunks of any lengths has the output of its run, whatever the chunks are. Assumes nothing.
-use Prim.Native.Nat.{ℕ, zero, suc, _+_}
-use native.Mathlib.Omega.{arith}
+-- An input that comes in chunks of any lengths has the output of its run, whatever the chunks are.
 use mathlib.Core.Path.{_≡_, refl, sym, ap, _∙_}
 use mathlib.Core.Bool.{Bool, true, false, cond}
 use mathlib.Core.List.{List, [], _∷_, _++_, append-assoc, append-nil}
+use Prim.Native.Nat.{ℕ, zero, suc, _+_}
+use native.Mathlib.Omega.{arith}
 use lib.Dec.{eqb}
 use lib.ListN.{length, take}
 use lib.Seq.{take-take}
-use Rattle.card.specs.declared.Card.{Card}
 use Rattle.card.specs.Fields.{freshCard}
-use Rattle.replies.specs.declared.Protocol.{Protocol}
+use Rattle.card.specs.declared.Card.{Card}
 use Rattle.replies.specs.Answers.{reply, next}
+use Rattle.replies.specs.declared.Protocol.{Protocol}
 use Rattle.stream.specs.Run.{lastLine, linesBehind, replies, run}
 use Rattle.stream.specs.Feeding.{Progress, behind, progress, lastReply, keptLength, progressAll, feedAll, joined}
 use Rattle.stream.proofs.Keeping.{reply-kept, next-kept}

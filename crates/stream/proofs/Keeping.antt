@@ -1,14 +1,14 @@
--- The bytes that are kept of an unfinished line. Assumes nothing.
+-- The bytes that are kept of an unfinished line.
+use mathlib.Core.Path.{_≡_, sym}
+use mathlib.Core.List.{List, [], _∷_, _++_, append-assoc, append-nil}
 use Prim.Native.Nat.{ℕ, suc, _+_, _<_, _≤_}
 use native.Mathlib.Omega.{arith}
 use native.Mathlib.Numerals.{add-one}
-use mathlib.Core.Path.{_≡_, sym}
-use mathlib.Core.List.{List, [], _∷_, _++_, append-assoc, append-nil}
 use lib.ListN.{length, take, drop, getD, set, length-take, drop-of-length-le}
 use lib.Seq.{take-all, take-at, take-suc-set, drop-cons}
 use Rattle.card.specs.declared.Card.{Card}
-use Rattle.replies.specs.declared.Protocol.{Protocol}
 use Rattle.replies.specs.Answers.{reply, next}
+use Rattle.replies.specs.declared.Protocol.{Protocol}
 use Rattle.replies.proofs.LongLines.{first-bytes}
 use Rattle.stream.specs.Feeding.{keptLength}
 

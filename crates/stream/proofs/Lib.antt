@@ -2,4 +2,4 @@
 pub mod AnyChunks
 pub mod Keeping
 pub mod Pieces
-pub mod Turns
+pub mod Rounds

@@ -1,18 +1,18 @@
--- A chunk, one line at a time. Assumes nothing.
-use Prim.Native.Nat.{ℕ, suc, _+_, _<_, _≤_}
-use native.Mathlib.Omega.{arith}
+-- A chunk, one line at a time.
 use mathlib.Core.Path.{_≡_, refl, sym, ap, _∙_}
 use mathlib.Core.Bool.{Bool, true, false, cond}
 use mathlib.Core.List.{List, [], _∷_, _++_, append-assoc, append-nil}
+use Prim.Native.Nat.{ℕ, suc, _+_, _<_, _≤_}
+use native.Mathlib.Omega.{arith}
 use lib.Dec.{eqb}
 use lib.ListN.{length, take, drop}
 use lib.Seq.{take-all}
 use Rattle.card.specs.declared.Card.{Card}
-use Rattle.lines.specs.Numbers.{indexOf}
-use Rattle.replies.specs.declared.Protocol.{Protocol}
 use Rattle.replies.specs.Answers.{reply, next}
-use Rattle.stream.specs.declared.State.{State}
+use Rattle.replies.specs.declared.Protocol.{Protocol}
 use Rattle.stream.specs.Feeding.{Progress, behind, progress, held, keptLength, progressFrom, lastReply, Feeds}
+use Rattle.stream.specs.declared.State.{State}
+use Rattle.bytes.specs.Bytes.{indexAfter, indexOf}
 
 -- output before output
 pub behind-both : (a b : List ℕ) (r : Progress) → behind (a ++ b) r ≡ behind a (behind b r)
@@ -24,11 +24,11 @@ module _ (p : Protocol) (c : Card) where
   ended begun k l = behind (reply p c (begun ++ take k l)) (progress p (next p c (begun ++ take k l)) [] (drop (suc k) l))
 
   -- (q: whether the first byte is a newline)
-  line-by : (q : Bool) (begun : List ℕ) (b k : ℕ) (l : List ℕ) → cond q 0 (suc k) < suc (length l)
+  line-by : (q : Bool) (begun : List ℕ) (b k : ℕ) (l : List ℕ) → indexAfter q k < suc (length l)
       → (k < length l → progress p c (begun ++ (b ∷ [])) l ≡ ended (begun ++ (b ∷ [])) k l)
       → cond q (behind (reply p c begun) (progress p (next p c begun) [] l)) (progress p c (begun ++ (b ∷ [])) l)
-      ≡ ended begun (cond q 0 (suc k)) (b ∷ l)
-  unfolding ended
+      ≡ ended begun (indexAfter q k) (b ∷ l)
+  unfolding ended indexAfter
   line-by true begun b k l h f = rw append-nil
   line-by false begun b k l h f = f (omega arith) ∙ rw append-assoc
 
@@ -39,10 +39,11 @@ module _ (p : Protocol) (c : Card) where
   line-ended begun [] h = absurd (omega arith)
   line-ended begun (b ∷ l) h = line-by (eqb b 10) begun b (indexOf 10 l) l h (line-ended (begun ++ (b ∷ [])) l)
 
-  rest-by : (q : Bool) (begun : List ℕ) (b k : ℕ) (l : List ℕ) → suc (length l) ≤ cond q 0 (suc k)
+  rest-by : (q : Bool) (begun : List ℕ) (b k : ℕ) (l : List ℕ) → suc (length l) ≤ indexAfter q k
       → (length l ≤ k → progress p c (begun ++ (b ∷ [])) l ≡ record { output = []; card = c; line = (begun ++ (b ∷ [])) ++ l })
       → cond q (behind (reply p c begun) (progress p (next p c begun) [] l)) (progress p c (begun ++ (b ∷ [])) l)
       ≡ record { output = []; card = c; line = begun ++ b ∷ l }
+  unfolding indexAfter
   rest-by true begun b k l h f = absurd (omega arith)
   rest-by false begun b k l h f =
       f (omega arith) ∙ ap (λ (g : List ℕ). record { output = []; card = c; line = g }) (append-assoc begun (b ∷ []) l)

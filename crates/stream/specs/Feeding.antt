@@ -1,18 +1,19 @@
--- An input that comes in chunks: what is written for a chunk, and the card and the unfinished line that it leaves. Definitions; assumes nothing.
-use Prim.Native.Nat.{ℕ, suc}
+-- Document 01, "One session, whole" (RULES.md, "Lines"), for an input that comes in chunks: what is written for a chunk, and the card and the
+-- unfinished line that it leaves.
 use mathlib.Core.Path.{_≡_}
 use mathlib.Core.Bool.{cond}
 use mathlib.Core.List.{List, [], _∷_, _++_}
+use Prim.Native.Nat.{ℕ, suc}
 use lib.Dec.{eqb}
 use lib.ListN.{take}
-use Rattle.card.specs.declared.Card.{Card}
 use Rattle.card.specs.Fields.{freshCard}
-use Rattle.replies.specs.declared.Protocol.{Protocol}
+use Rattle.card.specs.declared.Card.{Card}
 use Rattle.replies.specs.Commands.{longestLine}
-use Rattle.replies.specs.Answers.{longest, reply, next}
+use Rattle.replies.specs.Answers.{reply, next}
+use Rattle.replies.specs.declared.Protocol.{Protocol}
+use Rattle.stream.specs.Run.{run}
 use Rattle.stream.specs.declared.Kept.{Kept}
 use Rattle.stream.specs.declared.State.{State}
-use Rattle.stream.specs.Run.{run}
 
 -- what a chunk brings about: the output, the card afterwards, and the unfinished line behind the last newline
 pub record Progress : Type 0 where
@@ -46,14 +47,6 @@ cut r = record { output = r .output; card = r .card; line = take keptLength (r .
 -- the bytes that are kept
 abbrev pub held : Kept → List ℕ
 held k = take (k .len) (k .bytes)
-
--- the bytes that are read at once, at most
-abbrev pub chunkLength : ℕ
-chunkLength = 4096
-
--- the bytes that an answer and its newline take at most
-abbrev pub room : ℕ
-room = suc longest
 
 -- from a state
 abbrev pub progressFrom : Protocol → State → List ℕ → Progress

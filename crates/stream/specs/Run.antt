@@ -1,14 +1,14 @@
--- THE RUN of a program: what it writes for a whole input (document 01, "One session, whole"). What stands behind the
--- last newline is a line too, unless it is nothing. Every line has one line of output. Definitions, with examples; assumes nothing.
-use Prim.Native.Nat.{ℕ}
+-- Document 01, "One session, whole" (RULES.md, "Lines"): the run of a program, all that it writes for a whole input. What stands behind the last
+-- newline is a line too, unless it is nothing. Every line has one line of output.
 use mathlib.Core.Path.{_≡_, refl}
 use mathlib.Core.Bool.{cond}
 use mathlib.Core.List.{List, [], _∷_, _++_}
+use Prim.Native.Nat.{ℕ}
 use lib.Dec.{eqb}
-use Rattle.card.specs.declared.Card.{Card}
 use Rattle.card.specs.Fields.{freshCard}
-use Rattle.replies.specs.declared.Protocol.{Protocol}
+use Rattle.card.specs.declared.Card.{Card}
 use Rattle.replies.specs.Answers.{reply, next}
+use Rattle.replies.specs.declared.Protocol.{Protocol}
 
 -- the last line, where something stands behind the last newline
 abbrev pub lastLine : List ℕ → List (List ℕ)

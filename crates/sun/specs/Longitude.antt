@@ -1,16 +1,16 @@
--- Document 01, "The Sun": the apparent longitude s, the polynomial longitude beside it, and the angle g of "Polaris"; of the arguments of an epoch and its q.
--- Assumes nothing.
+-- Document 01, "The Sun" (RULES.md, "The Sun"): the apparent longitude s, the polynomial longitude beside it, and the angle g of "Polaris", in units,
+-- of the arguments of an epoch and its q.
 use mathlib.Core.Path.{_≡_}
 use mathlib.Core.List.{List}
 use Prim.Native.Nat.{ℕ, _≤_, _<_}
 use lib.IntN.{ℤ, pos, _+ℤ_, _-ℤ_}
 use lib.ListN.{getD}
-use Rattle.exact.specs.Angle.{turn, reduced, shortWay}
+use Rattle.exact.specs.Reduction.{turn, reduced, shortWay}
 use Rattle.exact.specs.Decimal.{plus, arcSeconds}
-use Rattle.arguments.specs.Table.{L}
+use Rattle.arguments.specs.PrintedArguments.{L}
 use Rattle.series.specs.Term.{Term}
 use Rattle.series.specs.Sum.{tableSum, polynomialSum}
-use Rattle.frame.specs.Nutation.{deltaPsi, longitudeTerms}
+use Rattle.frame.specs.Nutation.{dpsi, dpsiTerms}
 use Rattle.sun.specs.Series.{centre, firstSum}
 
 abbrev pub meanLongitude : List ℤ → ℤ
@@ -18,16 +18,16 @@ meanLongitude arguments = getD arguments L (pos 0)
 
 -- the constant of aberration, in units
 unfoldable pub aberration : ℤ
-aberration = arcSeconds (plus 20496 3)
+aberration = arcSeconds (plus 20_496 3)
 
 -- L, the first sum of any list of terms and Δψ, less the aberration, reduced
 unfoldable pub longitudeBy : List Term → ℤ → List ℤ → ℤ → ℕ
-longitudeBy terms aberration arguments q = reduced (meanLongitude arguments +ℤ tableSum arguments q terms +ℤ deltaPsi arguments q -ℤ aberration)
+longitudeBy terms aberration arguments q = reduced (meanLongitude arguments +ℤ tableSum arguments q terms +ℤ dpsi arguments q -ℤ aberration)
 
--- the same with R·P in the sine's place, in the first sum and in Δψ alone
+-- the same with R·P for the sine, in the first sum and in Δψ
 unfoldable pub polynomialBy : List Term → ℤ → List ℤ → ℤ → ℕ
 polynomialBy terms aberration arguments q =
-    reduced (meanLongitude arguments +ℤ polynomialSum arguments q terms +ℤ polynomialSum arguments q longitudeTerms -ℤ aberration)
+    reduced (meanLongitude arguments +ℤ polynomialSum arguments q terms +ℤ polynomialSum arguments q dpsiTerms -ℤ aberration)
 
 -- 01's s and its polynomial longitude
 unfoldable pub apparentLongitude : ℤ → List ℤ → ℤ → ℕ
@@ -37,8 +37,8 @@ unfoldable pub polynomialLongitude : ℤ → List ℤ → ℤ → ℕ
 polynomialLongitude aberration arguments q = polynomialBy firstSum aberration arguments q
 
 -- demand 3: how many units the two may be apart
-abbrev pub promise : ℕ
-promise = 60
+abbrev pub longitudeTolerance : ℕ
+longitudeTolerance = 60
 
 -- the centre terms alone, rounded as the first sum is
 unfoldable pub equationOfCentre : List ℤ → ℤ → ℤ
@@ -48,8 +48,8 @@ equationOfCentre arguments q = tableSum arguments q centre
 unfoldable pub centreLongitude : List ℤ → ℤ → ℕ
 centreLongitude arguments q = reduced (meanLongitude arguments +ℤ equationOfCentre arguments q)
 
--- What is owed of a number r that is given out as the apparent longitude: it is s, reduced, and demand 3 holds of it
+-- what is owed of a number r that is given out as the apparent longitude: it is s, reduced, and demand 3 holds of it
 pub record IsLongitude (aberration : ℤ) (arguments : List ℤ) (q : ℤ) (r : ℕ) : Type 0 where
   pub value : r ≡ apparentLongitude aberration arguments q
   pub range : r < turn
-  pub near : shortWay r (polynomialLongitude aberration arguments q) ≤ promise
+  pub near : shortWay r (polynomialLongitude aberration arguments q) ≤ longitudeTolerance

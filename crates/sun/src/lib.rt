@@ -8,22 +8,22 @@ pub use tables::ABERRATION;
 ghost use mathlib.Core.Path.{_≡_};
 ghost use Prim.Native.Nat.{_+_, _*_, _≤_, _<_, _^_};
 ghost use lib.IntN.{natAbs};
-ghost use Rattle.exact.specs.Angle.{turn};
-ghost use Rattle.secular.specs.Sizes.{largest};
+ghost use Rattle.exact.specs.Reduction.{turn};
+ghost use Rattle.secular.specs.Sizes.{mostMillionths};
 ghost use Rattle.sine.specs.Sine.{R, entries, Sin};
-ghost use Rattle.sine.specs.Promises.{circleMost};
+ghost use Rattle.sine.specs.SineContract.{circleMost};
 ghost use Rattle.rotation.specs.Length.{squaredLength, growth};
 ghost use Rattle.epoch.specs.Sizes.{InSpan};
 ghost use Rattle.arguments.specs.Sizes.{IsArguments};
 ghost use Rattle.series.specs.Sum.{total};
-ghost use Rattle.frame.specs.Nutation.{deltaPsi};
+ghost use Rattle.frame.specs.Nutation as Nutation;
 ghost use Rattle.sun.specs.Series.{centre};
 ghost use Rattle.sun.specs.Longitude.{equationOfCentre, centreLongitude, IsLongitude};
 ghost use Rattle.sun.specs.Direction.{direction};
 
-// The exact sum of the centre terms at q.
+// The exact sum of the centre terms at q, before it is divided by R.
 fn centre_sum(t: &SineTable, arguments: &[i64], q: i64) -> i64
-    requires { ⌜ (now t ≡ entries) × IsArguments (now arguments) × (natAbs q ≤ largest) ⌝ }
+    requires { ⌜ (now t ≡ entries) × IsArguments (now arguments) × (natAbs q ≤ mostMillionths) ⌝ }
     ensures { λ r. ⌜ (r ≡ total Sin (now (arguments .entry)) q centre) × (natAbs r ≤ R * 2 ^ 27) ⌝ }
 {
     series::sum(
@@ -44,7 +44,7 @@ pub fn equation_of_centre(t: &SineTable, arguments: &[i64], e: Epoch) -> i64
     series::rounded(centre_sum(t, arguments, e.q))
 }
 
-// The mean longitude with the equation of the centre alone: document 01's g, for the aberration of a star.
+// The mean longitude with the equation of the centre alone, reduced: document 01's g, for the aberration of a star.
 pub fn centre_longitude(t: &SineTable, arguments: &[i64], e: Epoch) -> u64
     requires { ⌜ (now t ≡ entries) × IsArguments (now arguments) × InSpan e ⌝ }
     ensures { λ r. ⌜ (r ≡ centreLongitude (now (arguments .entry)) (e .q)) × (r < turn) ⌝ }
@@ -52,15 +52,16 @@ pub fn centre_longitude(t: &SineTable, arguments: &[i64], e: Epoch) -> u64
     exact::reduced_bounded(arguments[arguments::L] + equation_of_centre(t, arguments, e))
 }
 
-// The Sun's apparent longitude s at an epoch, from its arguments, its nutation in longitude and the aberration in units.
+// The Sun's apparent longitude s at an epoch, reduced, from its arguments, Δψ and the aberration, in units. The centre terms and the
+// periodic ones are rounded together: document 01's first sum.
 pub fn apparent_longitude(
     t: &SineTable,
     arguments: &[i64],
     e: Epoch,
-    nutation: i64,
+    dpsi: i64,
     aberration: i64,
 ) -> u64
-    requires { ⌜ ((now t ≡ entries) × IsArguments (now arguments) × InSpan e) × ((nutation ≡ deltaPsi (now arguments) (e .q)) × (natAbs nutation ≤ 2 ^ 20)) × (natAbs aberration ≤ 2 ^ 20) ⌝ }
+    requires { ⌜ ((now t ≡ entries) × IsArguments (now arguments) × InSpan e) × ((dpsi ≡ Nutation.dpsi (now arguments) (e .q)) × (natAbs dpsi ≤ 2 ^ 20)) × (natAbs aberration ≤ 2 ^ 20) ⌝ }
     ensures { λ r. ⌜ IsLongitude aberration (now (arguments .entry)) (e .q) r ⌝ }
 {
     let centre = centre_sum(t, arguments, e.q);
@@ -70,15 +71,16 @@ pub fn apparent_longitude(
         &tables::PERIODIC_ROWS,
         arguments,
     );
-    let first = series::rounded(centre + periodic);
-    exact::reduced_bounded(arguments[arguments::L] + first + nutation - aberration)
+    let first_sum = series::rounded(centre + periodic);
+    exact::reduced_bounded(arguments[arguments::L] + first_sum + dpsi - aberration)
 }
 
-// The Sun's direction in the frame of the equator: (Cos s, Sin s, 0) turned by R1(−ε).
+// The Sun's direction in the frame of the equator: (Cos s, Sin s, 0) rotated by R1(−ε), where ε is
+// the true obliquity.
 pub fn direction(t: &SineTable, s: u64, epsilon: i64) -> Direction
     requires { ⌜ (now t ≡ entries) × (s < turn) × (natAbs epsilon < 2 ^ 40) ⌝ }
     ensures { λ r. ⌜ (r ≡ direction s epsilon) × (squaredLength r ≤ circleMost + growth) ⌝ }
 {
     let d = [sine::cos(t, s), sine::sin(t, s), 0];
-    rotation::apply(rotation::about_x(t, -epsilon), d)
+    rotation::rotated(rotation::rotation1(t, -epsilon), d)
 }

@@ -1,26 +1,27 @@
--- `arguments::argument` meets its contract, for any row of the sizes stated.
+-- The linear part by N and the rest by q, for any row of the sizes stated.
 use mathlib.Core.Path.{_≡_, refl, ap₂, subst⁻¹, _∙_}
 use mathlib.Core.List.{List}
 use Prim.Native.Nat.{_*_, _≤_, _<_, _^_}
 use native.Mathlib.Omega.{arith}
-use borrow.Author.Needs.{needs}
 use lib.Dec.{lit<}
 use lib.IntN.{ℤ, pos, natAbs, _+ℤ_, _*ℤ_}
 use mir.Facts.{toZ-ofZ}
 use mir.Syntax.{w64}
 use mir.Val.{SFits}
-use Rattle.exact.specs.Angle.{reduced}
+use borrow.Author.Needs.{needs}
+use Rattle.exact.specs.Reduction.{reduced}
 use Rattle.exact.specs.Century.{century}
 use Rattle.exact.specs.Division.{floorDiv}
+use Rattle.exact.specs.Nth.{nth}
 use Rattle.exact.proofs.Differences.{split, zs}
 use Rattle.exact.proofs.Division.{floor-abs}
 use Rattle.exact.proofs.Integers.{abs-*-lt}
 use Rattle.exact.proofs.Machine.{ok-fits, fits-lt, fits-le}
-use Rattle.secular.specs.Polynomial.{polynomial, value}
+use Rattle.secular.specs.FlooredPolynomial.{polynomial, value}
 use Rattle.secular.specs.Sizes as Secular
 use Rattle.epoch.proofs.Sizes.{n-size, q-size, n-fits, q-fits}
-use Rattle.arguments.specs.Argument.{at, argument}
-use Rattle.arguments.proofs.Sizes.{Sized, is-sized}
+use Rattle.arguments.specs.Argument.{argument}
+use Rattle.arguments.specs.Sizes.{RowSized}
 use Rattle.arguments.proofs.argument.Statement.{statement}
 use Rattle.arguments.proofs.argument.Tie as tie
 
@@ -32,21 +33,21 @@ sum-in : (a b : ℤ) → natAbs a ≤ 2 ^ 49 → natAbs b ≤ 2 ^ 42 → SFits w
 sum-in a b = rw (split a, split b) (simp zs (omega arith))
 
 -- c0 and c2 as secular takes them
-rest-sized : (row : List ℤ) → Sized row → Secular.Sized (polynomial (at row 0) (pos 0) (at row 2) (10 ^ 12))
+rest-sized : (row : List ℤ) → RowSized row → Secular.Sized (polynomial (nth row 0) (pos 0) (nth row 2) (10 ^ 12))
 rest-sized row h = record { c0 = h .c0; c1 = omega arith; c2 = h .c2; low = search needs; high = search needs }
 
--- ---- what is known at each place
+-- ---- what is known on the way
 module _ (s : tie.Start) where
   abbrev row : List ℤ
   row = s .args .t1
 
-  sizes : Sized row
-  sizes = is-sized row (s .pre .0)
+  sizes : RowSized row
+  sizes = s .pre .0
 
-  fit : SFits w64 (at row 0) × SFits w64 (at row 1) × SFits w64 (at row 2)
+  fit : SFits w64 (nth row 0) × SFits w64 (nth row 1) × SFits w64 (nth row 2)
   fit =
       let h = sizes in
-      (fits-le (2 ^ 40) (at row 0) (h .c0) refl, fits-lt (2 ^ 45) (at row 1) (h .c1) refl, fits-le (2 * 10 ^ 6) (at row 2) (h .c2) refl)
+      (fits-le (2 ^ 40) (nth row 0) (h .c0) refl, fits-lt (2 ^ 45) (nth row 1) (h .c1) refl, fits-le (2 * 10 ^ 6) (nth row 2) (h .c2) refl)
 
 module _ (c : tie.After-value) where
   abbrev start : tie.Start
@@ -55,10 +56,10 @@ module _ (c : tie.After-value) where
   abbrev linear : ℤ
   linear = c .before .before .per-century .result
 
-  linear-is : linear ≡ floorDiv (at (row start) 1 *ℤ start .args .e .n) century
+  linear-is : linear ≡ floorDiv (nth (row start) 1 *ℤ start .args .e .n) century
   linear-is = simp (toZ-ofZ, fit start .1, n-fits (start .pre .1)) at (c .before .before .per-century .ensures)
 
-  rest-is : c .value .result ≡ value (polynomial (at (row start) 0) (pos 0) (at (row start) 2) (10 ^ 12)) (start .args .e .q)
+  rest-is : c .value .result ≡ value (polynomial (nth (row start) 0) (pos 0) (nth (row start) 2) (10 ^ 12)) (start .args .e .q)
   rest-is = simp (toZ-ofZ, fit start .0, fit start .2, q-fits (start .pre .1)) at (c .value .ensures .0)
 
   both-fit : SFits w64 linear × SFits w64 (c .value .result)
@@ -68,7 +69,7 @@ module _ (c : tie.After-value) where
   unfolding Secular.most
   sum =
       let h = sizes start in
-      let l = linear-le (at (row start) 1) (start .args .e .n) (h .c1) (n-size (start .pre .1)) in
+      let l = linear-le (nth (row start) 1) (start .args .e .n) (h .c1) (n-size (start .pre .1)) in
       let v = simp (toZ-ofZ, fit start .0, fit start .2) at (c .value .ensures .1) in
       sum-in linear (c .value .result) (subst⁻¹ (λ (z : ℤ). natAbs z ≤ 2 ^ 49) linear-is l) (omega (arith, v, h .c0, h .c2))
 

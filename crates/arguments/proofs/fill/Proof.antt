@@ -1,4 +1,4 @@
--- `arguments::fill` meets its contract, for a table of any length: each turn stores the angle of its row.
+-- For a table of any length: each round stores the angle of its row.
 use mathlib.Core.Path.{_≡_, refl, sym, ap, subst⁻¹, _∙_}
 use mathlib.Core.List.{List, []}
 use Prim.Native.Nat.{_+_, _-_, _≤_, _<_}
@@ -10,7 +10,6 @@ use mir.Syntax.{w64}
 use mir.Val.{SFits, toZ}
 use Rattle.arguments.specs.Argument.{argument}
 use Rattle.arguments.proofs.Filling.{Filled, filled-none, filled-more, filled-all}
-use Rattle.arguments.proofs.Sizes.{sized-at}
 use Rattle.arguments.proofs.fill.Statement.{statement}
 use Rattle.arguments.proofs.fill.Tie as tie
 
@@ -32,9 +31,9 @@ shared-slice-copy-out-argument c = omega arith
 argument-requires : tie.Need-argument-requires Inv-loop μ-loop
 argument-requires c κs =
     let l = c .before .before in
-    (sized-at (l .before .args .rows .now) (l .loop .i) (l .before .pre .1) (omega arith), l .before .pre .2)
+    (l .before .pre .1 (l .loop .i) (omega arith), l .before .pre .2)
 
--- a turn of the loop
+-- a round of the loop
 module _ (c : tie.After-argument Inv-loop μ-loop) where
   abbrev loop : tie.At-loop Inv-loop μ-loop
   loop = c .before .before .before

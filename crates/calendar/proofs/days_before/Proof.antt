@@ -1,13 +1,13 @@
--- `calendar::days_before` meets its contract: each way out is one of the law's cases.
+-- Each way out is one of the law's cases.
 use mathlib.Core.Path.{_≡_}
-use mathlib.Core.Bool.{true, false}
-use Prim.Native.Nat.{_+_, _≤_}
+use mathlib.Core.Bool.{Bool, true, false}
+use Prim.Native.Nat.{_≤_}
+use native.Mathlib.Omega.{arith}
+use lib.ListN.{take}
 use borrow.Author.Needs.{needs}
 use borrow.Author.Tests.{lt-ltb, le-ltb}
-use native.Mathlib.Omega.{arith}
-use lib.ListN.{getD, take}
 use Rattle.calendar.specs.Date.{months, total}
-use Rattle.calendar.proofs.Count.{daysBefore, month-days}
+use Rattle.calendar.proofs.Count.{daysIn, month}
 use Rattle.calendar.proofs.days_before.Statement.{statement}
 use Rattle.calendar.proofs.days_before.Tie as tie
 
@@ -17,26 +17,20 @@ mul-days c = search needs
 array-read-days : tie.Need-array-read-days
 array-read-days c = search needs
 
-returns : tie.Need-returns
-returns c =
-    let a = c .before .args in
-    simp (lt-ltb _ _ (c .if1 .taken)) at (month-days (a .leap) (a .count) (c .before .pre))
+law : (s : tie.Start) (leap : Bool) → (daysIn leap (s .args .count) ≡ total (take (s .args .count) (months leap))) × (daysIn leap (s .args .count) ≤ 335)
+law s leap = let m = month leap (s .args .count) (s .pre) in (m .days, m .days-le)
 
--- from the second month on, in a leap year and in a common year
-leap : (c : tie.Then2) → (getD daysBefore (c .before .before .args .count) 0 + 1 ≡ total (take (c .before .before .args .count) (months true)))
-    × (getD daysBefore (c .before .before .args .count) 0 + 1 ≤ 366)
-leap c = simp (le-ltb _ _ (c .before .if1 .left)) at (month-days true (c .before .before .args .count) (c .before .before .pre))
+returns : tie.Need-returns
+returns c = simp (lt-ltb _ _ (c .if1 .taken)) at (law (c .before) (c .before .args .leap))
 
 add-result : tie.Need-add-result
-add-result c = let l = leap c in record { fits = omega arith }
+add-result c = let l = simp (le-ltb _ _ (c .before .if1 .left)) at (law (c .before .before) true) in record { fits = omega (arith, l .1) }
 
 returns-2 : tie.Need-returns-2
-returns-2 c = simp (c .if2 .taken) (leap c)
+returns-2 c = simp (c .if2 .taken) (simp (le-ltb _ _ (c .before .if1 .left)) at (law (c .before .before) true))
 
 returns-3 : tie.Need-returns-3
-returns-3 c =
-    simp (c .if2 .left)
-    (simp (le-ltb _ _ (c .before .if1 .left)) at (month-days false (c .before .before .args .count) (c .before .before .pre)))
+returns-3 c = simp (c .if2 .left) (simp (le-ltb _ _ (c .before .if1 .left)) at (law (c .before .before) false))
 
 pub days-before-spec : {M : Type 1} → statement M
 days-before-spec = tie.close (tie.spec mul-days array-read-days returns add-result returns-2 returns-3)

@@ -1,7 +1,7 @@
--- `calendar::epochs_of` meets its contract: one epoch, twice.
+-- One epoch, twice.
 use mathlib.Core.Path.{ap}
-use borrow.Author.Needs.{needs}
 use mir.Facts.{toZ-ofZ}
+use borrow.Author.Needs.{needs}
 use Rattle.calendar.specs.Time.{both}
 use Rattle.calendar.proofs.epochs_of.Statement.{statement}
 use Rattle.calendar.proofs.epochs_of.Tie as tie

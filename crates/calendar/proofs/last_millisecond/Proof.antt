@@ -1,4 +1,3 @@
--- `calendar::last_millisecond` meets its contract: the tests are the definition's.
 use native.Mathlib.Omega.{arith}
 use borrow.Author.Needs.{needs}
 use borrow.Author.Tests.{eq-eqb, ne-eqb}

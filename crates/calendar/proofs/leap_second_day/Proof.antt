@@ -1,4 +1,4 @@
--- `calendar::leap_second_day` meets its contract: June and December, each by its own test.
+-- June and December, each by its own test.
 use mathlib.Core.Path.{_≡_, refl}
 use mathlib.Core.Bool.{Bool, true, false, _||_}
 use borrow.Author.Tests.{eq-eqb, ne-eqb}

@@ -1,4 +1,3 @@
--- `calendar::leap_year` meets its contract: the tests are the definition's.
 use borrow.Author.Tests.{eq-eqb, ne-eqb}
 use Rattle.calendar.specs.Date.{leapYear}
 use Rattle.calendar.proofs.leap_year.Statement.{statement}

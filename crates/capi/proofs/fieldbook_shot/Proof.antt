@@ -1,13 +1,17 @@
--- `capi::fieldbook_shot` meets its contract: the answer's words are the values of the book's own answer.
+-- The answer's words are the values of the book's own answer.
 use mathlib.Core.Path.{_≡_, subst}
-use borrow.Author.Needs.{needs}
 use mir.Facts.{toZ-ofZ}
+use borrow.Author.Needs.{needs}
+use Rattle.fieldbook.specs.Shot.{shotValues, ShotReduced, shot}
 use Rattle.fieldbook.specs.declared.Numbers.{Numbers}
-use Rattle.fieldbook.specs.Shot.{valuesOf, InTurn, shotOf}
 use Rattle.fieldbook.specs.declared.Outcome.{Outcome}
-use Rattle.capi.specs.Door.{numbers}
+use Rattle.capi.specs.Interface.{numbers}
 use Rattle.capi.proofs.fieldbook_shot.Statement.{statement}
 use Rattle.capi.proofs.fieldbook_shot.Tie as tie
+
+-- the values of the book's own answer are the shot's
+abbrev IsShot : Numbers → Outcome → Type 0
+IsShot n o = (shotValues o ≡ shot n) × ShotReduced (shotValues o)
 
 module _ (c : tie.After-shot) where
   abbrev x : Numbers
@@ -15,15 +19,14 @@ module _ (c : tie.After-shot) where
       let a = c .before .before .args in
       numbers (a .year) (a .month) (a .day) (a .hour) (a .minute) (a .millisecond) (a .dut1) (a .latitude) (a .longitude) (a .body)
 
-  -- the values of the book's own answer are the shot's
-  shot-is : (valuesOf (c .shot .result) ≡ shotOf x) × InTurn (valuesOf (c .shot .result))
+  shot-is : IsShot x (c .shot .result)
   shot-is =
       let f = c .before .before .fits in
-      let e = c .before .numbers-of .ensures in
-      simp (toZ-ofZ, f .year, f .month, f .day, f .hour, f .minute, f .millisecond, f .dut1, f .latitude, f .longitude, f .body) at (subst (λ (n : Numbers). (valuesOf (c .shot .result) ≡ shotOf n) × InTurn (valuesOf (c .shot .result))) e (c .shot .ensures))
+      let e = subst (λ (n : Numbers). IsShot n (c .shot .result)) (c .before .numbers-of .ensures) (c .shot .ensures) in
+      simp (toZ-ofZ, f .year, f .month, f .day, f .hour, f .minute, f .millisecond, f .dut1, f .latitude, f .longitude, f .body) at e
 
-  values-of : (o : Outcome) → c .shot .result ≡ o → (valuesOf o ≡ shotOf x) × InTurn (valuesOf o)
-  values-of o e = subst (λ (o : Outcome). (valuesOf o ≡ shotOf x) × InTurn (valuesOf o)) e shot-is
+  values-of : (o : Outcome) → c .shot .result ≡ o → IsShot x o
+  values-of o e = subst (IsShot x) e shot-is
 
 numbers-of-requires : tie.Need-numbers-of-requires
 numbers-of-requires c κs = search needs

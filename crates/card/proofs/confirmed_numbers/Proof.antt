@@ -1,26 +1,25 @@
--- `card::confirmed_numbers` meets its contract: at each turn of the loop, what is gathered and the fields that are left give the answer. Assumes
--- nothing.
-use Prim.Native.Nat.{ℕ, suc, _+_, _-_, _<_, _≤_}
-use native.Mathlib.Numerals.{add-one}
-use native.Mathlib.Omega.{arith}
+-- In each round of the loop, what is gathered and the fields that are left give the answer.
 use mathlib.Core.Path.{_≡_, refl, sym, ap, _∙_}
 use mathlib.Core.Bool.{false, cond}
 use mathlib.Core.List.{List, _∷_, map}
+use Prim.Native.Nat.{ℕ, suc, _+_, _-_, _<_, _≤_}
+use native.Mathlib.Numerals.{add-one}
+use native.Mathlib.Omega.{arith}
 use lib.IntN.{ℤ, pos}
 use lib.ListN.{set, replicate}
 use lib.Seq.{sets}
 use mir.Facts.{toZ-ofZ}
+use borrow.Author.Needs.{needs}
+use Rattle.card.specs.Fields.{isConfirmed, numberIn, fieldCount, fieldAt}
+use Rattle.card.specs.Confirmed.{fieldsFrom, everyConfirmed, ConfirmedValues, given, withheld, confirmedNumbers}
 use Rattle.card.specs.declared.Field.{Field}
 use Rattle.card.specs.declared.Field.the-variants.{Confirmed}
 use Rattle.card.specs.declared.Card.{Card}
-use Rattle.card.specs.Fields.{isConfirmed, numberIn, fieldCount, fieldAt}
-use Rattle.card.specs.Shot.{fieldsFrom, everyConfirmed, ConfirmedValues, given, withheld, confirmedNumbers}
 use Rattle.card.proofs.States.{not-confirmed}
-use borrow.Author.Needs.{needs}
 use Rattle.card.proofs.confirmed_numbers.Statement.{statement}
 use Rattle.card.proofs.confirmed_numbers.Tie as tie
 
--- the answer, with numbers gathered before place i and fields left from it on
+-- the answer, with numbers gathered before index i and fields left from it on
 abbrev answer : List ℤ → ℕ → List Field → ConfirmedValues
 answer numbers i fields = cond (everyConfirmed fields) (given (sets numbers i (map numberIn fields))) (withheld 1)
 
@@ -98,18 +97,6 @@ returns-2 : tie.Need-returns-2 Inv-loop μ-loop
 returns-2 c = let l = c .before .loop in all-gathered _ (l .numbers) (l .i) (omega arith) ∙ l .inv
 
 pub confirmed-numbers-spec : {M : Type 1} → statement M
-confirmed-numbers-spec =
-    tie.close
-    (tie.spec
-    Inv-loop
-    μ-loop
-    loop-holds
-    field-at-requires
-    enum-known-number
-    returns
-    mul-numbers
-    array-set-from-numbers
-    add-i
-    loop-less
-    loop-again
+confirmed-numbers-spec = tie.close
+    (tie.spec Inv-loop μ-loop loop-holds field-at-requires enum-known-number returns mul-numbers array-set-from-numbers add-i loop-less loop-again
     returns-2)

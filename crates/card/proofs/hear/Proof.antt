@@ -1,13 +1,12 @@
--- `card::hear` meets its contract. Assumes nothing.
 use mathlib.Core.Path.{_≡_, sym, ap, ap₂, _∙_}
 use mathlib.Core.Bool.{true}
 use mir.Facts.{toZ-ofZ}
 use borrow.Author.Tests.{not-true, not-false}
-use Rattle.card.specs.declared.Field.the-variants.{Heard}
+use borrow.Author.Needs.{needs}
 use Rattle.card.specs.Fields.{isField, put}
 use Rattle.card.specs.Calls.{accepted, canBeHeard}
-use Rattle.card.proofs.Answers.{hearing-no-field, hearing-too-large, hearing-accepted}
-use borrow.Author.Needs.{needs}
+use Rattle.card.specs.declared.Field.the-variants.{Heard}
+use Rattle.card.proofs.CallAnswers.{hear-no-field, hear-too-large, hear-accepted}
 use Rattle.card.proofs.hear.Statement.{statement}
 use Rattle.card.proofs.hear.Tie as tie
 
@@ -24,14 +23,14 @@ field-there c = tested (c .before) ∙ not-false _ (c .if1 .left)
 is-field-requires : tie.Need-is-field-requires
 is-field-requires c κs = search needs
 
-refused-requires : tie.Need-refused-requires
-refused-requires c κs = search needs
+card-answer-requires : tie.Need-card-answer-requires
+card-answer-requires c κs = search needs
 
 returns : tie.Need-returns
 returns c =
     let t = c .before in
     let a = t .before .before .args in
-    c .refused .ensures ∙ hearing-no-field (a .card) (a .field) (a .number) (tested (t .before) ∙ not-true _ (t .if1 .taken))
+    c .card-answer .ensures ∙ hear-no-field (a .card) (a .field) (a .number) (tested (t .before) ∙ not-true _ (t .if1 .taken))
 
 sub-between : tie.Need-sub-between
 sub-between c = search needs
@@ -39,26 +38,26 @@ sub-between c = search needs
 between-requires : tie.Need-between-requires
 between-requires c κs = search needs
 
-refused-requires-2 : tie.Need-refused-requires-2
-refused-requires-2 c κs = search needs
+card-answer-requires-2 : tie.Need-card-answer-requires-2
+card-answer-requires-2 c κs = search needs
 
 returns-2 : tie.Need-returns-2
 returns-2 c =
     let t = c .before in
     let l = t .before .before in
     let a = l .before .before .args in
-    c .refused2 .ensures
-    ∙ hearing-too-large (a .card) (a .field) (a .number) (field-there l) (tested-number (t .before) ∙ not-true _ (t .if2 .taken))
+    c .card-answer2 .ensures
+    ∙ hear-too-large (a .card) (a .field) (a .number) (field-there l) (tested-number (t .before) ∙ not-true _ (t .if2 .taken))
 
-place-of-requires : tie.Need-place-of-requires
-place-of-requires c κs =
+slot-index-requires : tie.Need-slot-index-requires
+slot-index-requires c κs =
     let l = c .before .before in simp (toZ-ofZ (l .before .before .fits .field)) (field-there l)
 
 put-requires : tie.Need-put-requires
 put-requires c κs = search needs
 
-accepted-requires : tie.Need-accepted-requires
-accepted-requires c κs = search needs
+card-answer-requires-3 : tie.Need-card-answer-requires-3
+card-answer-requires-3 c κs = search needs
 
 returns-3 : tie.Need-returns-3
 returns-3 c =
@@ -67,23 +66,12 @@ returns-3 c =
     let l = t .before .before in
     let s = l .before .before in
     let a = s .args in
-    let place = simp (toZ-ofZ (s .fits .field)) at (p .place-of .ensures .0) in
-    c .accepted .ensures
-    ∙ ap accepted (c .before .put .ensures ∙ ap₂ (λ i z. put (a .card) i (Heard z)) place (toZ-ofZ (s .fits .number)))
-    ∙ hearing-accepted (a .card) (a .field) (a .number) (field-there l) (tested-number (t .before) ∙ not-false _ (t .if2 .left))
+    let index = simp (toZ-ofZ (s .fits .field)) at (p .slot-index .ensures .0) in
+    c .card-answer3 .ensures
+    ∙ ap accepted (c .before .put .ensures ∙ ap₂ (λ i z. put (a .card) i (Heard z)) index (toZ-ofZ (s .fits .number)))
+    ∙ hear-accepted (a .card) (a .field) (a .number) (field-there l) (tested-number (t .before) ∙ not-false _ (t .if2 .left))
 
 pub hear-spec : {M : Type 1} → statement M
-hear-spec =
-    tie.close
-    (tie.spec
-    is-field-requires
-    refused-requires
-    returns
-    sub-between
-    between-requires
-    refused-requires-2
-    returns-2
-    place-of-requires
-    put-requires
-    accepted-requires
-    returns-3)
+hear-spec = tie.close
+    (tie.spec is-field-requires card-answer-requires returns sub-between between-requires card-answer-requires-2 returns-2 slot-index-requires put-requires
+    card-answer-requires-3 returns-3)

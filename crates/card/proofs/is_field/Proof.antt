@@ -1,4 +1,3 @@
--- `card::is_field` meets its contract. Assumes nothing.
 use mir.Facts.{toZ-ofZ}
 use borrow.Author.Needs.{needs}
 use Rattle.card.proofs.is_field.Statement.{statement}

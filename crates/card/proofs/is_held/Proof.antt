@@ -1,6 +1,5 @@
--- `card::is_held` meets its contract. Assumes nothing.
-use Rattle.card.proofs.States.{not-empty}
 use borrow.Author.Needs.{needs}
+use Rattle.card.proofs.States.{not-empty}
 use Rattle.card.proofs.is_held.Statement.{statement}
 use Rattle.card.proofs.is_held.Tie as tie
 

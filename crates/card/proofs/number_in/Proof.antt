@@ -1,8 +1,8 @@
--- `card::number_in` meets its contract: the number of each case fits its type, so it is the number of its bits. Assumes nothing.
+-- The number of each case fits its type, so it is the number of its bits.
 use mathlib.Core.Path.{refl, sym, ap}
+use borrow.Author.Needs.{needs}
 use Rattle.card.specs.Fields.{numberIn}
 use Rattle.card.proofs.States.{held}
-use borrow.Author.Needs.{needs}
 use Rattle.card.proofs.number_in.Statement.{statement}
 use Rattle.card.proofs.number_in.Tie as tie
 
@@ -31,14 +31,4 @@ returns-4 : tie.Need-returns-4
 returns-4 c = held (c .before .field3 .given .1) refl (search needs)
 
 pub number-in-spec : {M : Type 1} → statement M
-number-in-spec =
-    tie.close
-    (tie.spec
-    enum-told
-    enum-known-field
-    enum-known-field-2
-    enum-known-field-3
-    returns
-    returns-2
-    returns-3
-    returns-4)
+number-in-spec = tie.close (tie.spec enum-told enum-known-field enum-known-field-2 enum-known-field-3 returns returns-2 returns-3 returns-4)

@@ -1,6 +1,5 @@
--- `card::read_state` meets its contract. Assumes nothing.
-use Rattle.card.proofs.States.{now-read, other-state}
 use borrow.Author.Needs.{needs}
+use Rattle.card.proofs.States.{now-read, other-state}
 use Rattle.card.proofs.read_state.Statement.{statement}
 use Rattle.card.proofs.read_state.Tie as tie
 

@@ -1,14 +1,13 @@
--- `digits::text_len` meets its contract. Assumes nothing.
-use native.Mathlib.Omega.{arith}
 use mathlib.Core.Path.{_≡_, sym, ap, _∙_}
+use native.Mathlib.Omega.{arith}
 use lib.IntN.{natAbs}
 use lib.ListN.{length}
 use mir.Facts.{toZ-ofZ}
 use borrow.Author.Needs.{needs}
+use Rattle.exact.proofs.Machine.{abs-word}
 use Rattle.digits.specs.Text.{digits}
 use Rattle.digits.proofs.Decimal.{length-digits-64}
 use Rattle.digits.proofs.Signs.{text-neg, text-pos}
-use Rattle.exact.proofs.Machine.{abs-word}
 use Rattle.digits.proofs.text_len.Statement.{statement}
 use Rattle.digits.proofs.text_len.Tie as tie
 
@@ -44,5 +43,4 @@ returns-2 c =
     counted (c .before) ∙ sym (ap length (text-pos (s .args .n) (rw (toZ-ofZ (s .fits .n)) at (c .if1 .left))))
 
 pub text-len-spec : {M : Type 1} → statement M
-text-len-spec =
-    tie.close (tie.spec magnitude-requires digits-len-requires add-result returns returns-2)
+text-len-spec = tie.close (tie.spec magnitude-requires digits-len-requires add-result returns returns-2)

@@ -1,11 +1,10 @@
--- `digits::write_at` meets its contract. Assumes nothing.
 use mathlib.Core.Path.{ap, _∙_}
 use native.Mathlib.Omega.{arith}
 use lib.ListN.{length}
 use mir.Facts.{toZ-ofZ}
+use borrow.Author.Needs.{needs}
 use Rattle.digits.specs.Text.{text}
 use Rattle.digits.proofs.Writes.{no-room, wrote}
-use borrow.Author.Needs.{needs}
 use Rattle.digits.proofs.write_at.Statement.{statement}
 use Rattle.digits.proofs.write_at.Tie as tie
 
@@ -48,16 +47,6 @@ returns-3 c =
     wrote (s .args .buf .now) (s .args .place) (s .args .n) (w .result) (w .last .0) (omega arith) (rw z at (w .ensures .0)) (rw z at (w .ensures .1))
 
 pub write-at-spec : {M : Type 1} → statement M
-write-at-spec =
-    tie.close
-    (tie.spec
-    returns
-    sub-if2
-    text-len-requires
-    returns-2
-    sub-write-text
-    part-write-text-start
-    part-write-text-end
-    write-text-requires
-    same-length
+write-at-spec = tie.close
+    (tie.spec returns sub-if2 text-len-requires returns-2 sub-write-text part-write-text-start part-write-text-end write-text-requires same-length
     returns-3)

@@ -1,16 +1,15 @@
--- `digits::write_text` meets its contract. Assumes nothing.
-use Prim.Native.Nat.{_+_, _≤_}
 use mathlib.Core.Path.{_≡_, sym, ap, _∙_}
 use mathlib.Core.List.{_∷_}
+use Prim.Native.Nat.{_+_, _≤_}
 use native.Mathlib.Omega.{arith}
-use borrow.Rule.Slice.PartMut.{same-len-mid}
 use lib.IntN.{natAbs}
 use lib.ListN.{length, length-set, length-drop}
 use mir.Facts.{toZ-ofZ}
+use borrow.Rule.Slice.PartMut.{same-len-mid}
+use borrow.Author.Needs.{needs}
 use Rattle.digits.specs.Text.{digits, text}
 use Rattle.digits.proofs.Lists.{put-behind, tail-part}
 use Rattle.digits.proofs.Signs.{text-neg, text-pos}
-use borrow.Author.Needs.{needs}
 use Rattle.digits.proofs.write_text.Statement.{statement}
 use Rattle.digits.proofs.write_text.Tie as tie
 
@@ -85,19 +84,6 @@ returns-2 c =
     rw e (c .before .before .write-digits2 .ensures)
 
 pub write-text-spec : {M : Type 1} → statement M
-write-text-spec =
-    tie.close
-    (tie.spec
-    magnitude-requires
-    slice-write-buf
-    slice-write-buf-2
-    sub-write-digits
-    part-write-digits-start
-    part-write-digits-end
-    write-digits-requires
-    add-result
-    same-length
-    returns
-    write-digits-requires-2
-    same-length-2
-    returns-2)
+write-text-spec = tie.close
+    (tie.spec magnitude-requires slice-write-buf slice-write-buf-2 sub-write-digits part-write-digits-start part-write-digits-end
+    write-digits-requires add-result same-length returns write-digits-requires-2 same-length-2 returns-2)

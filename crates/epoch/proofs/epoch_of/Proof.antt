@@ -1,4 +1,3 @@
--- `epoch::epoch_of` meets its contract: q is the definition's quotient.
 use mathlib.Core.Path.{ap}
 use lib.Dec.{lit<}
 use mir.Facts.{toZ-ofZ}

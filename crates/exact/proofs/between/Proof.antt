@@ -1,4 +1,4 @@
--- `exact::between` meets its contract: the two tests are the definition's.
+-- The two tests are the definition's.
 use mir.Facts.{toZ-ofZ}
 use Rattle.exact.specs.Range.{between}
 use Rattle.exact.proofs.between.Statement.{statement}

@@ -1,4 +1,4 @@
--- `exact::floor_div` meets its contract: with as many multiples of d as 2^62 holds the number is natural, and they are taken away from the quotient.
+-- With as many multiples of d as 2^62 holds the number is natural, and they are taken away from the quotient.
 use mathlib.Core.Path.{_≡_, subst⁻¹}
 use Prim.Native.Nat.{ℕ, _+_, _*_, _/_, _%_, _≤_, _<_, _^_}
 use native.Mathlib.Nat.{div-add-mod, mod-lt, div-le-self}

@@ -1,13 +1,13 @@
--- `exact::magnitude` meets its contract: of a negative number one is added before it is negated, and again after.
+-- Of a negative number one is added before it is negated, and again after.
 use mathlib.Core.Path.{_≡_}
 use Prim.Native.Nat.{_+_, _<_, _^_}
 use native.Mathlib.Omega.{arith}
-use borrow.Author.Needs.{needs}
 use lib.IntN.{ℤ, pos, natAbs, _+ℤ_, _-ℤ_}
 use lib.Signed.{_≤ℤ_, _<ℤ_}
 use mir.Facts.{toZ-ofZ}
 use mir.Syntax.{w64}
 use mir.Val.{SFits}
+use borrow.Author.Needs.{needs}
 use Rattle.exact.proofs.Differences.{split, zs, abs-dif}
 use Rattle.exact.proofs.Machine.{is-lt, is-ge, to-nat}
 use Rattle.exact.proofs.magnitude.Statement.{statement}

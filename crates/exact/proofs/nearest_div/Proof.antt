@@ -1,15 +1,15 @@
--- `exact::nearest_div` meets its contract: half of d more, rounded down, is the nearest, also for an odd d.
+-- Half of d more, rounded down, is the nearest, also for an odd d.
 use mathlib.Core.Path.{_≡_, _∙_}
 use Prim.Native.Nat.{ℕ, _+_, _*_, _/_, _≤_, _^_}
 use native.Mathlib.Omega.{arith}
-use borrow.Author.Needs.{sfits-of}
 use lib.Dec.{lit<}
 use lib.IntN.{ℤ, pos, natAbs, _+ℤ_}
 use lib.Signed.{quotZ, _<ℤ_, ltZ-yes}
 use mir.Facts.{toZ-ofZ}
 use mir.Syntax.{w64}
 use mir.Val.{SFits}
-use Rattle.exact.specs.Division.{floorDiv, nearest}
+use borrow.Author.Needs.{sfits-of}
+use Rattle.exact.specs.Division.{floorDiv, nearestDiv}
 use Rattle.exact.proofs.Differences.{split, zs, abs-dif}
 use Rattle.exact.proofs.Division.{nearest-half}
 use Rattle.exact.proofs.Quotient.{Positive, some, positive, quot-fits}
@@ -19,7 +19,7 @@ use Rattle.exact.proofs.nearest_div.Tie as tie
 record Half (a d : ℤ) : Type 0 where
   fits : SFits w64 (a +ℤ quotZ d (pos 2))
   sized : natAbs (a +ℤ quotZ d (pos 2)) + natAbs d ≤ 2 ^ 62
-  same : floorDiv (a +ℤ quotZ d (pos 2)) (natAbs d) ≡ nearest a (natAbs d)
+  same : floorDiv (a +ℤ quotZ d (pos 2)) (natAbs d) ≡ nearestDiv a (natAbs d)
 
 half : (a d : ℤ) → pos 0 <ℤ d → natAbs a + 2 * natAbs d ≤ 2 ^ 62 → Half a d
 half a d h = go (positive d h)

@@ -1,4 +1,4 @@
--- `exact::per_century` meets its contract: c is a whole centuries and a rest, and the floor of the rest's product moves by the a * n of the whole ones.
+-- C is a whole centuries and a rest, and the floor of the rest's product moves by the a * n of the whole ones.
 use mathlib.Core.Path.{_≡_, refl, sym, ap, _∙_}
 use Prim.Native.Nat.{_*_, _<_, _≤_, _^_}
 use native.Mathlib.Nat.{le-of-lt}

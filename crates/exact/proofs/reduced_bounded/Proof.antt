@@ -1,17 +1,17 @@
--- `exact::reduced_bounded` meets its contract: with so many turns more the angle is natural, and the machine's rest of it is the angle.
+-- With so many turns more the angle is natural, and the machine's rest of it is the angle.
 use Prim.Native.Nat.{ℕ, _*_, _≤_, _^_}
 use native.Mathlib.Omega.{arith}
-use borrow.Author.Needs.{needs}
 use lib.Dec.{lit<}
 use lib.IntN.{ℤ, pos, natAbs, _+ℤ_}
 use lib.Signed.{_≤ℤ_, yes-nonNeg, pos-natAbs}
 use mir.Facts.{toZ-ofZ}
 use mir.Syntax.{w64}
 use mir.Val.{SFits}
-use Rattle.exact.specs.Angle.{turn, reduced}
+use borrow.Author.Needs.{needs}
+use Rattle.exact.specs.Reduction.{turn, reduced}
 use Rattle.exact.proofs.Differences.{split, zs}
 use Rattle.exact.proofs.Machine.{to-nat}
-use Rattle.exact.proofs.Turn.{rest-offset, reduced-lt}
+use Rattle.exact.proofs.Reduction.{rest-offset, reduced-lt}
 use Rattle.exact.proofs.reduced_bounded.Statement.{statement}
 use Rattle.exact.proofs.reduced_bounded.Tie as tie
 

@@ -1,15 +1,15 @@
--- `exact::rest_per_century` meets its contract: the quotient of natural numbers by the parts of the century, and the three centuries taken away again.
+-- The quotient of natural numbers by the parts of the century, and the three centuries taken away again.
 use mathlib.Core.Path.{_≡_, refl, sym, ap, _∙_}
 use Prim.Native.Nat.{ℕ, _+_, _*_, _/_, _%_, _<_, _≤_, _^_}
 use native.Mathlib.Nat.{div-add-mod, mod-lt, mul-le-mul, mul-add-div-right, div-div-eq-div-mul, le-of-lt}
 use native.Mathlib.Omega.{arith}
-use borrow.Author.Needs.{needs}
 use lib.Dec.{lit<}
 use lib.IntN.{ℤ, pos, natAbs, _+ℤ_, _-ℤ_, _*ℤ_}
 use lib.Signed.{_≤ℤ_, yes-nonNeg, pos-natAbs}
 use mir.Facts.{toZ-ofZ}
 use mir.Syntax.{w64}
 use mir.Val.{SFits}
+use borrow.Author.Needs.{needs}
 use Rattle.exact.specs.Division.{floorDiv}
 use Rattle.exact.specs.Century.{century}
 use Rattle.exact.proofs.Differences.{split, zs}

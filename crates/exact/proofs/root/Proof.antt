@@ -1,5 +1,5 @@
--- `exact::root` meets its contract. The loop's invariant: the guess is at the root or above, and q is x divided by it. The guess falls until q is no longer below it.
--- Assumes nothing.
+-- The loop's invariant: the guess is at the root or above, and q is x divided by it. The guess falls until q is no
+-- longer below it.
 use mathlib.Core.Path.{_≡_, refl, sym}
 use Prim.Native.Nat.{_+_, _*_, _/_, _^_, _≤_, _<_}
 use native.Mathlib.Omega.{arith}
@@ -26,7 +26,7 @@ div-q c = omega arith
 loop-holds : tie.Need-loop-holds Inv-loop μ-loop
 loop-holds c =
     let x = c .before .args .x in
-    (refl, step-above x 1073741824 (omega arith), omega arith)
+    (refl, step-above x 1_073_741_824 (omega arith), omega arith)
 
 add-h-2 : tie.Need-add-h-2 Inv-loop μ-loop
 add-h-2 c = omega arith

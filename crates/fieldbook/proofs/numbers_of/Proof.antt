@@ -1,10 +1,12 @@
--- `fieldbook::numbers_of` meets its contract: each number of the array in its place.
-use borrow.Author.Needs.{needs}
+-- Each number of the array is the field of its index.
 use mathlib.Core.Path.{refl}
-use Prim.Native.Nat.{ℕ}
-use lib.IntN.{ℤ, pos}
-use lib.ListN.{getD}
+use Prim.Native.Nat.{ℕ, _^_, _<_}
+use lib.Signed.{mag}
+use mir.Syntax.{w64}
 use mir.Facts.{toZ-ofZ}
+use mir.Val.{SFits}
+use borrow.Author.Needs.{needs}
+use Rattle.exact.specs.Nth.{nth}
 use Rattle.exact.proofs.Machine.{ok-fits}
 use Rattle.fieldbook.specs.Shot.{numbersOf}
 use Rattle.fieldbook.proofs.numbers_of.Statement.{statement}
@@ -40,27 +42,38 @@ array-copy-out-t30 c = search needs
 array-copy-out-t34 : tie.Need-array-copy-out-t34
 array-copy-out-t34 c = search needs
 
-abbrev at : tie.After-t34 → ℕ → ℤ
-at c i = getD (c .before .before .before .before .before .before .before .before .before .before .args .t1) i (pos 0)
+module _ (c : tie.After-t34) where
+  -- the time's numbers are taken, and of these the date's
+  abbrev time : tie.After-t23
+  time = c .before .before .before
+
+  abbrev date : tie.After-t11
+  date = time .before .before .before .before
+
+  fit : (i : ℕ) → mag (nth (date .before .before .before .args .t1) i) < 2 ^ 63 → SFits w64 (nth (date .before .before .before .args .t1) i)
+  fit i = ok-fits (nth (date .before .before .before .args .t1) i)
 
 returns : tie.Need-returns
 unfolding numbersOf
 returns c =
-    simp (toZ-ofZ, ok-fits (at c 9) (c .t34 .given), ok-fits (at c 8) (c .before .t30 .given), ok-fits (at c 7) (c .before .before .t27 .given), ok-fits (at c 6) (c .before .before .before .t23 .given), ok-fits (at c 5) (c .before .before .before .before .t20 .given), ok-fits (at c 4) (c .before .before .before .before .before .t17 .given), ok-fits (at c 3) (c .before .before .before .before .before .before .t14 .given), ok-fits (at c 2) (c .before .before .before .before .before .before .before .t11 .given), ok-fits (at c 1) (c .before .before .before .before .before .before .before .before .t8 .given), ok-fits (at c 0) (c .before .before .before .before .before .before .before .before .before .t5 .given))
+    let t = time c in
+    let d = date c in
+    simp (
+      toZ-ofZ,
+      fit c 0 (d .before .before .t5 .given),
+      fit c 1 (d .before .t8 .given),
+      fit c 2 (d .t11 .given),
+      fit c 3 (t .before .before .before .t14 .given),
+      fit c 4 (t .before .before .t17 .given),
+      fit c 5 (t .before .t20 .given),
+      fit c 6 (t .t23 .given),
+      fit c 7 (c .before .before .t27 .given),
+      fit c 8 (c .before .t30 .given),
+      fit c 9 (c .t34 .given),
+    )
     refl
 
 pub numbers-of-spec : {M : Type 1} → statement M
-numbers-of-spec =
-    tie.close
-    (tie.spec
-    array-copy-out-t5
-    array-copy-out-t8
-    array-copy-out-t11
-    array-copy-out-t14
-    array-copy-out-t17
-    array-copy-out-t20
-    array-copy-out-t23
-    array-copy-out-t27
-    array-copy-out-t30
-    array-copy-out-t34
-    returns)
+numbers-of-spec = tie.close
+    (tie.spec array-copy-out-t5 array-copy-out-t8 array-copy-out-t11 array-copy-out-t14 array-copy-out-t17 array-copy-out-t20 array-copy-out-t23
+    array-copy-out-t27 array-copy-out-t30 array-copy-out-t34 returns)

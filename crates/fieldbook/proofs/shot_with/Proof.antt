@@ -1,13 +1,14 @@
--- `fieldbook::shot_with` meets its contract: the calendar's answer decides, by the laws of `Decided`.
-use borrow.Author.Needs.{needs}
+-- The calendar's answer decides, by the laws of `Decided`.
 use mathlib.Core.Path.{_≡_, sym, ap, subst, _∙_}
 use native.Mathlib.Omega.{arith}
 use mir.Facts.{toZ-ofZ}
 use mir.Syntax.{w64}
 use mir.Val.{SFits}
-use Rattle.calendar.specs.Time.{instantValues, instantOf, InRange}
+use borrow.Author.Needs.{needs}
+use Rattle.calendar.specs.Time.{instantValues, instantOf}
+use Rattle.calendar.specs.Sizes.{InstantSized}
 use Rattle.calendar.specs.declared.Instant.{Instant}
-use Rattle.fieldbook.proofs.Decided.{refused-in-turn, refused-instant, accepted-instant}
+use Rattle.fieldbook.proofs.Decided.{refused-reduced, refused-instant, accepted-instant}
 use Rattle.fieldbook.proofs.shot_with.Statement.{statement}
 use Rattle.fieldbook.proofs.shot_with.Tie as tie
 
@@ -28,7 +29,7 @@ shot-at-requires : tie.Need-shot-at-requires
 shot-at-requires c κs =
     let e = c .before .before in
     let i = e .before .before in
-    let r = subst InRange (e .epochs .given .1) (i .instant-of .ensures .1) in
+    let r = subst InstantSized (e .epochs .given .1) (i .instant-of .ensures .1) in
     (i .before .pre, (r .0, r .1))
 
 enum-known-refusal : tie.Need-enum-known-refusal
@@ -45,15 +46,7 @@ returns-2 : tie.Need-returns-2
 returns-2 c =
     let r = c .before .refusal .given in
     let i = c .before .before .before in
-    (refused-instant (i .before .args .numbers) (r .0 .0) (answer-by i _ (r .1)), refused-in-turn 0)
+    (refused-instant (i .before .args .numbers) (r .0 .0) (answer-by i _ (r .1)), refused-reduced 0)
 
 pub shot-with-spec : {M : Type 1} → statement M
-shot-with-spec =
-    tie.close
-    (tie.spec
-    instant-of-requires
-    enum-known-epochs
-    shot-at-requires
-    enum-known-refusal
-    returns
-    returns-2)
+shot-with-spec = tie.close (tie.spec instant-of-requires enum-known-epochs shot-at-requires enum-known-refusal returns returns-2)

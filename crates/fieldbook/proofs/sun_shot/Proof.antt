@@ -1,11 +1,11 @@
--- `fieldbook::sun_shot` meets its contract: each call gives what the definition names.
-use borrow.Author.Needs.{needs}
+-- Each call gives what the definition names.
 use native.Mathlib.Omega.{arith}
 use mir.Facts.{toZ-ofZ}
-use Rattle.exact.specs.Division.{floorDiv, nearest}
+use borrow.Author.Needs.{needs}
+use Rattle.exact.specs.Division.{floorDiv, nearestDiv}
 use Rattle.sun.specs.Longitude.{aberration}
-use Rattle.fieldbook.specs.Shot.{valuesOf}
-use Rattle.fieldbook.proofs.Skies.{epsilon-fits, sun-is}
+use Rattle.fieldbook.specs.Parts.{sunShot}
+use Rattle.fieldbook.proofs.Bodies.{epsilon-fits, sun-is, shot-is}
 use Rattle.fieldbook.proofs.sun_shot.Statement.{statement}
 use Rattle.fieldbook.proofs.sun_shot.Tie as tie
 
@@ -19,35 +19,25 @@ direction-requires : tie.Need-direction-requires
 direction-requires c κs =
     let l = c .before in
     let s = l .before .before .before .before .before in
-    simp (toZ-ofZ, epsilon-fits (s .args .sky) (s .pre .1)) (s .pre .0, l .apparent-longitude .ensures .range, omega (arith, s .pre .1 .frame .epsilon-size))
+    simp (toZ-ofZ, epsilon-fits (s .args .astrometry) (s .pre .1)) (s .pre .0, l .apparent-longitude .ensures .range, omega (arith, s .pre .1 .frame .epsilon-size))
 
 sight-requires : tie.Need-sight-requires
 sight-requires c κs = search needs
 
-answered-requires : tie.Need-answered-requires
-answered-requires c κs = search needs
+sighted-shot-requires : tie.Need-sighted-shot-requires
+sighted-shot-requires c κs = search needs
 
 returns : tie.Need-returns
-unfolding aberration nearest floorDiv
+unfolding sunShot aberration nearestDiv floorDiv
 returns c =
-    let v = c .before in
-    let d = v .before in
+    let d = c .before .before in
     let l = d .before .before in
     let s = l .before .before .before .before .before in
-    let k = s .args .sky in
-    let vector = simp (toZ-ofZ, epsilon-fits k (s .pre .1)) at (d .direction .ensures .0) in (
-      sun-is k (s .pre .1) (s .args .place) (d .direction .result) (valuesOf (c .answered .result)) (l .apparent-longitude .result)
-          (l .apparent-longitude .ensures .value) vector (c .answered .ensures .0 _ (v .sight .ensures .0)),
-      c .answered .ensures .1,
-    )
+    let k = s .args .astrometry in
+    let h = s .pre .1 in
+    let seen = sun-is k h _ _ (l .apparent-longitude .ensures .value) (simp (toZ-ofZ, epsilon-fits k h) at (d .direction .ensures .0)) in
+    shot-is k h (s .args .position) (seen .0) (seen .1) (c .sighted-shot .ensures .0 _ (c .before .sight .ensures .0), c .sighted-shot .ensures .1)
 
 pub sun-shot-spec : {M : Type 1} → statement M
-sun-shot-spec =
-    tie.close
-    (tie.spec
-    slice-aggregate-apparent-longitude
-    apparent-longitude-requires
-    direction-requires
-    sight-requires
-    answered-requires
-    returns)
+sun-shot-spec = tie.close
+    (tie.spec slice-aggregate-apparent-longitude apparent-longitude-requires direction-requires sight-requires sighted-shot-requires returns)

@@ -1,14 +1,14 @@
--- `frame::equinoxes` meets its contract: the product is small enough to be rounded.
+-- The product is small enough to be rounded.
 use mathlib.Core.Path.{_≡_, refl, ap, _∙_}
 use Prim.Native.Nat.{_*_, _≤_, _^_}
 use native.Mathlib.Omega.{arith}
-use borrow.Author.Needs.{needs}
 use lib.IntN.{ℤ, natAbs, _*ℤ_}
 use mir.Facts.{toZ-ofZ}
 use mir.Syntax.{w64}
 use mir.Val.{SFits}
-use Rattle.exact.specs.Angle.{reduced}
-use Rattle.exact.specs.Division.{nearest}
+use borrow.Author.Needs.{needs}
+use Rattle.exact.specs.Reduction.{reduced}
+use Rattle.exact.specs.Division.{nearestDiv}
 use Rattle.exact.proofs.Integers.{abs-*-le}
 use Rattle.exact.proofs.Machine.{ok-fits, fits-le}
 use Rattle.sine.specs.Sine.{R, Cos}
@@ -21,13 +21,13 @@ module _ (c : tie.After-cos) where
   start = c .before .before
 
   abbrev product : ℤ
-  product = start .args .nutation *ℤ c .cos .result
+  product = start .args .dpsi *ℤ c .cos .result
 
   cosine-is : c .cos .result ≡ Cos (reduced (start .args .epsilon))
   cosine-is = c .cos .ensures .0 ∙ ap Cos (simp (toZ-ofZ, start .fits .epsilon) at (c .before .reduced-bounded .ensures .0))
 
   product-le : natAbs product ≤ R * 2 ^ 20
-  product-le = omega (arith, abs-*-le (start .args .nutation) (c .cos .result) (2 ^ 20) R (start .pre .1) (c .cos .ensures .1))
+  product-le = omega (arith, abs-*-le (start .args .dpsi) (c .cos .result) (2 ^ 20) R (start .pre .1) (c .cos .ensures .1))
 
   fit : SFits w64 (c .cos .result) × SFits w64 product
   fit = (ok-fits (c .cos .result) (c .cos .ok), fits-le (R * 2 ^ 20) product product-le refl)
@@ -39,19 +39,19 @@ cos-requires : tie.Need-cos-requires
 cos-requires c κs = search needs
 
 mul-rounded : tie.Need-mul-rounded
-mul-rounded c = simp (toZ-ofZ, start c .fits .nutation, fit c .0) (fit c .1)
+mul-rounded c = simp (toZ-ofZ, start c .fits .dpsi, fit c .0) (fit c .1)
 
 rounded-requires : tie.Need-rounded-requires
-rounded-requires c κs = simp (toZ-ofZ, start c .fits .nutation, fit c .0, fit c .1) (omega (arith, product-le c))
+rounded-requires c κs = simp (toZ-ofZ, start c .fits .dpsi, fit c .0, fit c .1) (omega (arith, product-le c))
 
 returns : tie.Need-returns
 unfolding equinoxes
 returns c =
     let d = c .before in
     let s = start d in
-    let e = simp (toZ-ofZ, s .fits .nutation, fit d .0, fit d .1) at (c .rounded .ensures) in
+    let e = simp (toZ-ofZ, s .fits .dpsi, fit d .0, fit d .1) at (c .rounded .ensures) in
     simp (toZ-ofZ, ok-fits (c .rounded .result) (c .rounded .ok))
-    (e .0 ∙ ap (λ (z : ℤ). nearest (s .args .nutation *ℤ z) R) (cosine-is d), e .1 (2 ^ 20) (product-le d))
+    (e .0 ∙ ap (λ (z : ℤ). nearestDiv (s .args .dpsi *ℤ z) R) (cosine-is d), e .1 (2 ^ 20) (product-le d))
 
 pub equinoxes-spec : {M : Type 1} → statement M
 equinoxes-spec = tie.close (tie.spec reduced-bounded-requires cos-requires mul-rounded rounded-requires returns)

@@ -1,12 +1,11 @@
--- `horizon::horizontal_square` meets its contract.
 use mathlib.Core.Path.{_≡_, ap₂}
 use Prim.Native.Nat.{ℕ, _+_, _*_, _≤_}
 use native.Mathlib.Nat.{mul-le-mul}
 use native.Mathlib.Omega.{arith}
-use borrow.Author.Needs.{needs}
-use mir.Facts.{toZ-ofZ}
 use lib.IntN.{natAbs}
-use Rattle.rotation.specs.Length.{componentMost}
+use mir.Facts.{toZ-ofZ}
+use borrow.Author.Needs.{needs}
+use Rattle.rotation.specs.Sizes.{componentMost}
 use Rattle.horizon.specs.Horizon.{horizontalSquare}
 use Rattle.horizon.proofs.horizontal_square.Statement.{statement}
 use Rattle.horizon.proofs.horizontal_square.Tie as tie

@@ -1,15 +1,16 @@
--- `horizon::sight` meets its contract: two turns, and the angles of what they give.
+-- Two rotations, and the angles of what they give.
 use mathlib.Core.Path.{refl}
 use Prim.Native.Nat.{ℕ, _^_}
 use native.Mathlib.Omega.{arith}
-use borrow.Author.Needs.{needs}
 use mir.Facts.{toZ-ofZ}
 use mir.Syntax.{w64}
 use mir.Val.{SFits}
+use borrow.Author.Needs.{needs}
+use Rattle.exact.specs.Nth.{nth}
 use Rattle.exact.proofs.Machine.{fits-le, fits-lt}
-use Rattle.rotation.specs.Length.{Bounded, componentMost}
+use Rattle.rotation.specs.Sizes.{Bounded, componentMost}
 use Rattle.rotation.proofs.Sizes.{components-le}
-use Rattle.horizon.specs.Horizon.{at, viewFrom}
+use Rattle.horizon.specs.Horizon.{viewFrom}
 use Rattle.horizon.proofs.sight.Statement.{statement}
 use Rattle.horizon.proofs.sight.Tie as tie
 
@@ -38,10 +39,10 @@ module _ (c : tie.After-to-horizon) where
   h-le : Bounded componentMost (c .to-horizon .result)
   h-le = components-le (c .to-horizon .result) (omega arith)
 
-  m-fits : (i : ℕ) → SFits w64 (at (c .before .before .to-meridian .result) i)
+  m-fits : (i : ℕ) → SFits w64 (nth (c .before .before .to-meridian .result) i)
   m-fits i = fits-le componentMost _ (m-le i) refl
 
-  h-fits : (i : ℕ) → SFits w64 (at (c .to-horizon .result) i)
+  h-fits : (i : ℕ) → SFits w64 (nth (c .to-horizon .result) i)
   h-fits i = fits-le componentMost _ (h-le i) refl
 
 sight-of-requires : tie.Need-sight-of-requires
@@ -55,8 +56,8 @@ returns c =
     let d = c .before .before .before .before .before in
     let s = d .before .before .before .before in
     let e = simp (toZ-ofZ, m-fits d 0, h-fits d 0, h-fits d 1, h-fits d 2) at (c .sight-of .ensures .0) in
-    let m = simp (toZ-ofZ, fits-lt (2 ^ 40) (s .args .place .longitude) (s .pre .3 .longitude) refl) at (d .before .before .to-meridian .ensures .0) in
-    let h = simp (toZ-ofZ, fits-lt (2 ^ 40) (s .args .place .latitude) (s .pre .3 .latitude) refl) at (d .to-horizon .ensures .0) in
+    let m = simp (toZ-ofZ, fits-lt (2 ^ 40) (s .args .position .longitude) (s .pre .3 .longitude) refl) at (d .before .before .to-meridian .ensures .0) in
+    let h = simp (toZ-ofZ, fits-lt (2 ^ 40) (s .args .position .latitude) (s .pre .3 .latitude) refl) at (d .to-horizon .ensures .0) in
     (rw (h, m) at e, c .sight-of .ensures .1)
 
 pub sight-spec : {M : Type 1} → statement M

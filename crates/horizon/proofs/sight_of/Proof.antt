@@ -1,31 +1,22 @@
--- `horizon::sight_of` meets its contract: each test is one of `sightOf`, and each call gives one of the angles.
+-- Each test is one of `sightOf`, and each call gives one of the angles.
 use mathlib.Core.Path.{_≡_, refl, ap, _∙_}
-use mathlib.Core.Bool.{Bool, true, false}
-use Prim.Native.Nat.{ℕ, _*_, _^_, _≤_}
-use native.Mathlib.Nat.{mul-le-mul}
+use mathlib.Core.Bool.{true, false}
+use Prim.Native.Nat.{ℕ, _^_, _≤_}
 use native.Mathlib.Omega.{arith}
-use borrow.Author.Needs.{needs}
-use borrow.Author.Tests.{leb-true, leb-false, lt-ltb, le-ltb}
-use lib.Dec.{leb}
 use lib.IntN.{pos, negℤ}
 use lib.Signed.{ltZ}
 use mir.Facts.{toZ-ofZ}
 use mir.Syntax.{w64}
 use mir.Val.{toZ}
+use borrow.Author.Needs.{needs}
+use borrow.Author.Tests.{lt-ltb, le-ltb}
 use Rattle.exact.specs.Largest.{root}
-use Rattle.sine.specs.Angle.{angle}
-use Rattle.rotation.proofs.Signed.{negated, as-signed}
-use Rattle.horizon.specs.Horizon.{horizontalSquare, squareMost, seen, sightOf}
+use Rattle.exact.proofs.Machine.{negated, as-signed}
+use Rattle.exact.proofs.Products.{root-le}
+use Rattle.sine.specs.VectorAngle.{angle}
+use Rattle.horizon.specs.Horizon.{horizontalSquare, seen, sightOf}
 use Rattle.horizon.proofs.sight_of.Statement.{statement}
 use Rattle.horizon.proofs.sight_of.Tie as tie
-
--- ---- of plain numbers
-root-le : (r x : ℕ) → r * r ≤ x → x ≤ squareMost → r ≤ 2 ^ 34
-root-le r x h k = by (leb r (2 ^ 34)) refl
-  where
-    by : (t : Bool) → leb r (2 ^ 34) ≡ t → r ≤ 2 ^ 34
-    by true e = leb-true r (2 ^ 34) e
-    by false e = let l : 2 ^ 34 ≤ r = omega (arith, leb-false r (2 ^ 34) e) in absurd (omega (arith, mul-le-mul l l))
 
 -- ---- the two tests
 returns : tie.Need-returns
@@ -61,7 +52,7 @@ module _ (c : tie.After-root) where
   squared = c .before .before
 
   h-le : c .root .result ≤ 2 ^ 34
-  h-le = root-le (c .root .result) (squared .horizontal-square .result) (c .root .ensures .1) (squared .horizontal-square .ensures .1)
+  h-le = root-le (c .root .result) (2 ^ 34) (omega (arith, c .root .ensures .1, squared .horizontal-square .ensures .1))
 
   h-is : toZ w64 (c .root .result) ≡ pos (c .root .result)
   h-is = as-signed (c .root .result) (omega (arith, h-le))
@@ -90,15 +81,15 @@ angle-requires-3 c κs =
 azimuth-is : (c : tie.After-angle) → c .angle .result ≡ angle (start (squared (c .before)) .args .north) (start (squared (c .before)) .args .east)
 azimuth-is c = let s = start (squared (c .before)) in simp (toZ-ofZ, s .fits .north, s .fits .east) at (c .angle .ensures .0)
 
-zenith-is : (c : tie.After-angle2) → let s = start (squared (c .before .before)) in
+zenith-distance-is : (c : tie.After-angle2) → let s = start (squared (c .before .before)) in
     c .angle2 .result ≡ angle (s .args .up) (pos (root (horizontalSquare (s .args .north) (s .args .east))))
-zenith-is c =
+zenith-distance-is c =
     let r = c .before .before in
     let s = start (squared r) in
     (simp (toZ-ofZ, s .fits .up, h-is r) at (c .angle2 .ensures .0)) ∙ ap (λ (n : ℕ). angle (s .args .up) (pos n)) (r .root .ensures .0 ∙ ap root (square-is (squared r)))
 
-hour-is : (c : tie.After-angle3) → let s = start (squared (c .before .before .before)) in c .angle3 .result ≡ angle (s .args .x) (negℤ (s .args .east))
-hour-is c =
+hour-angle-is : (c : tie.After-angle3) → let s = start (squared (c .before .before .before)) in c .angle3 .result ≡ angle (s .args .x) (negℤ (s .args .east))
+hour-angle-is c =
     let s = start (squared (c .before .before .before)) in
     let n = negated (s .args .east) (omega arith) in
     (simp (toZ-ofZ, s .fits .x, s .fits .east, n .0) at (c .angle3 .ensures .0)) ∙ ap (angle (s .args .x)) (n .1)
@@ -109,7 +100,7 @@ returns-3 c =
     let r = c .before .before .before in
     let d = squared r in
     let e = le-ltb (horizontalSquare (start d .args .north) (start d .args .east)) (10 ^ 14) (rw (square-is d) at (r .before .if2 .left)) in (
-      rw (up-is d, e, azimuth-is (c .before .before), zenith-is (c .before), hour-is c) refl,
+      rw (up-is d, e, azimuth-is (c .before .before), zenith-distance-is (c .before), hour-angle-is c) refl,
       (c .before .before .angle .ensures .1, c .before .angle2 .ensures .1, c .angle3 .ensures .1),
     )
 

@@ -1,37 +1,37 @@
--- `horizon::to_horizon` meets its contract: up, east and north are the components of R2(−φ) (`proofs/Turned.antt`).
+-- Up, east and north are the components of R2(−φ) (proofs/ToHorizon.antt).
 use mathlib.Core.Path.{_≡_}
 use native.Mathlib.Omega.{arith}
-use borrow.Author.Needs.{needs}
 use lib.IntN.{negℤ}
 use lib.ListN.{length}
 use mir.Facts.{toZ-ofZ}
-use Rattle.exact.proofs.Machine.{held}
+use borrow.Author.Needs.{needs}
+use Rattle.exact.proofs.Machine.{held, negated}
 use Rattle.rotation.specs.Rotation.{rotation2}
-use Rattle.rotation.proofs.Signed.{negated, turn-back}
-use Rattle.horizon.proofs.Turned.{horizon-is}
+use Rattle.rotation.proofs.Components.{rotated-back}
+use Rattle.horizon.proofs.ToHorizon.{to-horizon-is}
 use Rattle.horizon.proofs.to_horizon.Statement.{statement}
 use Rattle.horizon.proofs.to_horizon.Tie as tie
 
-sub-about-y : tie.Need-sub-about-y
-sub-about-y c = simp (toZ-ofZ, c .fits .latitude) (negated (c .args .latitude) (omega arith) .0)
+sub-rotation2 : tie.Need-sub-rotation2
+sub-rotation2 c = simp (toZ-ofZ, c .fits .latitude) (negated (c .args .latitude) (omega arith) .0)
 
-about-y-requires : tie.Need-about-y-requires
-about-y-requires c κs =
+rotation2-requires : tie.Need-rotation2-requires
+rotation2-requires c κs =
     let n = negated (c .args .latitude) (omega arith) in
     simp (toZ-ofZ, c .fits .latitude, n .0) (c .pre .0, omega (arith, n .2))
 
-apply-requires : tie.Need-apply-requires
-apply-requires c κs = search needs
+rotated-requires : tie.Need-rotated-requires
+rotated-requires c κs = search needs
 
-turn-is : (c : tie.After-about-y) → c .about-y .result ≡ rotation2 (negℤ (c .before .args .latitude))
+rotation-is : (c : tie.After-rotation2) → c .rotation2 .result ≡ rotation2 (negℤ (c .before .args .latitude))
 unfolding held
-turn-is c = let s = c .before in turn-back rotation2 (s .args .latitude) (s .fits .latitude) (omega arith) (c .about-y .ensures .0)
+rotation-is c = let s = c .before in rotated-back rotation2 (s .args .latitude) (s .fits .latitude) (omega arith) (c .rotation2 .ensures .0)
 
 returns : tie.Need-returns
 returns c =
     let s = c .before .before in
     let l : length (s .args .m) ≡ 3 = search needs in
-    (cc (c .apply .ensures .0, turn-is (c .before), horizon-is (s .args .latitude) (s .args .m) l), c .apply .ensures .1)
+    (cc (c .rotated .ensures .0, rotation-is (c .before), to-horizon-is (s .args .latitude) (s .args .m) l), c .rotated .ensures .1)
 
 pub to-horizon-spec : {M : Type 1} → statement M
-to-horizon-spec = tie.close (tie.spec sub-about-y about-y-requires apply-requires returns)
+to-horizon-spec = tie.close (tie.spec sub-rotation2 rotation2-requires rotated-requires returns)

@@ -1,23 +1,22 @@
--- `lines::append_decimal` meets its contract. The invariant: what is left of the number and the digits that are stored make the number's. Assumes
--- nothing.
-use Prim.Native.Nat.{ℕ, _-_, _≤_}
+-- The invariant: what is left of the number and the digits that are stored make the number's.
 use mathlib.Core.Path.{_≡_, refl, sym, ap, _∙_}
 use mathlib.Core.List.{List, _++_, append-nil}
+use Prim.Native.Nat.{ℕ, _-_, _≤_}
 use native.Mathlib.Omega.{arith}
 use lib.ListN.{length, take, drop, set, length-set}
 use borrow.Author.Needs.{needs}
 use Rattle.digits.proofs.Lists.{tail-part}
-use Rattle.lines.specs.Writing.{decimalText}
+use Rattle.lines.specs.Appending.{decimalText}
 use Rattle.lines.proofs.Appending.{length-more, some-digit, digit-before, first-digit, at-most-twenty}
 use Rattle.lines.proofs.append_decimal.Statement.{statement}
 use Rattle.lines.proofs.append_decimal.Tie as tie
 
 abbrev Inv-loop : tie.InvT-loop
-Inv-loop out at n text₀ from₀ m₀ text from m =
+Inv-loop out place n text₀ from₀ m₀ text from m =
     (length (decimalText m) ≤ from) × (from ≤ 20) × (length text ≡ 20) × (decimalText n ≡ decimalText m ++ drop from text)
 
 abbrev μ-loop : tie.MeasureT-loop
-μ-loop out at n text₀ from₀ m₀ text from m = m
+μ-loop out place n text₀ from₀ m₀ text from m = m
 
 loop-holds : tie.Need-loop-holds Inv-loop μ-loop
 loop-holds c =
@@ -101,21 +100,5 @@ returns c = let a = c .before .before in rw (part (a .before .before .before .be
 pub append-decimal-spec : {M : Type 1} → statement M
 append-decimal-spec =
     tie.close
-    (tie.spec
-    Inv-loop
-    μ-loop
-    loop-holds
-    sub-from
-    last-digit-requires
-    array-write-text
-    loop-less
-    loop-again
-    sub-from-2
-    last-digit-requires-2
-    array-write-text-2
-    sub-append-bytes
-    part-append-bytes-start
-    part-append-bytes-end
-    append-bytes-requires
-    same-length
-    returns)
+    (tie.spec Inv-loop μ-loop loop-holds sub-from last-digit-requires array-write-text loop-less loop-again sub-from-2 last-digit-requires-2
+    array-write-text-2 sub-append-bytes part-append-bytes-start part-append-bytes-end append-bytes-requires same-length returns)

@@ -1,12 +1,11 @@
--- `lines::digits_of` meets its contract. The invariant: the number so far, with the digits to come, makes what all make, and is below 10^i.
--- Assumes nothing.
-use Prim.Native.Nat.{_-_, _^_, _<_, _≤_}
+-- The invariant: the number so far, with the digits to come, makes what all make, and is below 10^i.
 use mathlib.Core.Path.{_≡_, refl, _∙_}
+use Prim.Native.Nat.{_-_, _^_, _<_, _≤_}
 use native.Mathlib.Omega.{arith}
 use lib.ListN.{length, drop}
 use borrow.Author.Needs.{needs}
-use Rattle.lines.specs.Numbers.{digitsFrom, digitsOf}
-use Rattle.lines.proofs.Scans.{digit-low, digit-high, digit, digits-end, digit-more, at-most-eighteen, too-short, too-long, right-length}
+use Rattle.lines.specs.Numerals.{digitsFrom, digitsOf}
+use Rattle.lines.proofs.DigitScan.{digit-low, digit-high, digit, digits-end, digit-more, at-most-eighteen, too-short, too-long, right-length}
 use Rattle.lines.proofs.digits_of.Statement.{statement}
 use Rattle.lines.proofs.digits_of.Tie as tie
 
@@ -96,19 +95,5 @@ returns-5 c =
 pub digits-of-spec : {M : Type 1} → statement M
 digits-of-spec =
     tie.close
-    (tie.spec
-    Inv-loop
-    μ-loop
-    returns
-    returns-2
-    loop-holds
-    shared-slice-read-wide
-    wide-requires
-    returns-3
-    returns-4
-    mul-n
-    add-n
-    add-i
-    loop-less
-    loop-again
-    returns-5)
+    (tie.spec Inv-loop μ-loop returns returns-2 loop-holds shared-slice-read-wide wide-requires returns-3 returns-4 mul-n add-n add-i loop-less
+    loop-again returns-5)

@@ -1,22 +1,22 @@
--- `lines::numbers_of` meets its contract. The invariant: the row's numbers with those of what is left of the line are the line's. Assumes nothing.
+-- The invariant: the row's numbers with those of what is left of the line are the line's.
 use mathlib.Core.Path.{_≡_, sym, ap, _∙_}
-use Prim.Native.Nat.{ℕ, _+_, _-_, _<_, _≤_}
+use mathlib.Core.List.{List}
+use Prim.Native.Nat.{ℕ, _+_, _-_, _≤_}
 use native.Mathlib.Omega.{arith}
-use borrow.Author.Needs.{needs}
-use mathlib.Core.List.{List, [], _∷_, _++_}
 use lib.IntN.{ℤ}
 use lib.ListN.{length, take, drop, length-set, length-drop}
 use lib.Seq.{drop-drop}
 use mir.Facts.{toZ-ofZ}
 use mir.Syntax.{w64}
 use mir.Val.{SFits, toZ, ofZ}
-use Rattle.digits.proofs.Lists.{tail-part}
+use borrow.Author.Needs.{needs}
+use Rattle.lines.specs.Numerals.{numeralOf, words, rowLength, numbersBehind, numbersOf, listed}
 use Rattle.lines.specs.declared.Row.{Row}
 use Rattle.lines.specs.declared.Numeral.the-variants.{Number}
-use Rattle.lines.specs.Numbers.{indexOf, numeralOf, words, rowLength, numbersBehind, numbersOf, listed}
-use Rattle.lines.proofs.Words.{index-bound, no-number, no-room, last-number, more-numbers, listed-full, listed-room, listed-put}
+use Rattle.lines.proofs.Words.{slice-end, no-number, no-room, last-number, more-numbers}
 use Rattle.lines.proofs.numbers_of.Statement.{statement}
 use Rattle.lines.proofs.numbers_of.Tie as tie
+use Rattle.bytes.specs.Bytes.{indexOf}
 
 record Inv (s : List ℕ) (most : ℕ) (row : Row) (from : ℕ) : Type 0 where
   inside : from ≤ length s
@@ -52,29 +52,21 @@ module _ (l : tie.At-loop Inv-loop μ-loop) where
   left = drop (l .loop .from) line
 
 module _ (c : tie.After-find Inv-loop μ-loop) where
-  abbrev at : tie.At-loop Inv-loop μ-loop
-  at = c .before .before .before
+  abbrev again : tie.At-loop Inv-loop μ-loop
+  again = c .before .before
 
-  found : c .find .result ≡ indexOf 32 (left at)
-  found = c .find .ensures ∙ ap (indexOf 32) (tail-part (at .loop .from) (line at))
+  found : c .find .result ≡ again .loop .from + indexOf 32 (left again)
+  found = c .find .ensures .0 ∙ ap (λ l. again .loop .from + indexOf 32 l) (slice-end (again .loop .from) (line again))
 
-  bound : at .loop .from + c .find .result ≤ length (line at)
-  bound =
-      let b = index-bound 32 (left at) in
-      let d = length-drop (at .loop .from) (line at) in
-      let i = at .loop .inv .inside in
-      let f = found in
-      omega arith
-
-  size : at .loop .from + c .find .result - at .loop .from ≡ indexOf 32 (left at)
+  size : c .find .result - again .loop .from ≡ indexOf 32 (left again)
   size = let f = found in omega arith
 
 module _ (c : tie.After-numeral-of Inv-loop μ-loop) where
   abbrev finding : tie.After-find Inv-loop μ-loop
   finding = c .before .before
 
-  word : c .numeral-of .result ≡ numeralOf (most (at finding)) (take (indexOf 32 (left (at finding))) (left (at finding)))
-  word = c .numeral-of .ensures ∙ ap (λ j. numeralOf (most (at finding)) (take j (left (at finding)))) (size finding)
+  word : c .numeral-of .result ≡ numeralOf (most (again finding)) (take (indexOf 32 (left (again finding))) (left (again finding)))
+  word = c .numeral-of .ensures ∙ ap (λ j. numeralOf (most (again finding)) (take j (left (again finding)))) (size finding)
 
 -- as a number
 module _ (c : tie.After-known-told Inv-loop μ-loop) where
@@ -82,7 +74,10 @@ module _ (c : tie.After-known-told Inv-loop μ-loop) where
   reading = c .before .before .before
 
   abbrev loop : tie.At-loop Inv-loop μ-loop
-  loop = at (finding reading)
+  loop = again (finding reading)
+
+  abbrev row : Row
+  row = loop .loop .row
 
   abbrev z : ℤ
   z = toZ w64 (ofZ w64 (c .before .n .given .0 .0))
@@ -92,29 +87,17 @@ module _ (c : tie.After-known-told Inv-loop μ-loop) where
       let fits : SFits w64 (c .before .n .given .0 .0) = search needs in
       rw (toZ-ofZ fits) (sym (c .before .n .given .1) ∙ word reading)
 
-sub-find : tie.Need-sub-find Inv-loop μ-loop
-sub-find c = omega arith
-
-part-find-start : tie.Need-part-find-start Inv-loop μ-loop
-part-find-start c = search needs
-
-part-find-end : tie.Need-part-find-end Inv-loop μ-loop
-part-find-end c = search needs
-
 find-requires : tie.Need-find-requires Inv-loop μ-loop
 find-requires c κs = search needs
-
-add-k : tie.Need-add-k Inv-loop μ-loop
-add-k c = let b = bound c in omega (arith, at c .before .before .before .good .0 .0)
 
 sub-numeral-of : tie.Need-sub-numeral-of Inv-loop μ-loop
 sub-numeral-of c = omega arith
 
 part-numeral-of-start : tie.Need-part-numeral-of-start Inv-loop μ-loop
-part-numeral-of-start c = let b = bound c in search needs
+part-numeral-of-start c = search needs
 
 part-numeral-of-end : tie.Need-part-numeral-of-end Inv-loop μ-loop
-part-numeral-of-end c = let b = bound c in search needs
+part-numeral-of-end c = search needs
 
 numeral-of-requires : tie.Need-numeral-of-requires Inv-loop μ-loop
 numeral-of-requires c κs = search needs
@@ -131,8 +114,10 @@ empty-row-requires-2 c κs = search needs
 returns : tie.Need-returns Inv-loop μ-loop
 returns c =
     let w = c .before .before .before in
-    let l = at (finding w) in
-    c .empty-row2 .ensures ∙ no-number (listed (l .loop .row)) (most l) (left l) (sym (c .before .enum-told .given .1) ∙ word w) ∙ l .loop .inv .rest
+    let l = again (finding w) in
+    let r = l .loop .row in
+    c .empty-row2 .ensures
+    ∙ no-number (r .numbers) (l .loop .inv .full) (r .count) (most l) (left l) (sym (c .before .enum-told .given .1) ∙ word w) ∙ l .loop .inv .rest
 
 empty-row-requires-3 : tie.Need-empty-row-requires-3 Inv-loop μ-loop
 empty-row-requires-3 c κs = search needs
@@ -141,9 +126,8 @@ returns-2 : tie.Need-returns-2 Inv-loop μ-loop
 returns-2 c =
     let n = c .before .before in
     let l = loop n in
-    let r = l .loop .row in
     c .empty-row3 .ensures
-    ∙ no-room (listed r) (most l) (left l) _ (number n) (listed-full (r .numbers) (l .loop .inv .full) (r .count) (c .before .if1 .taken)) ∙ l .loop .inv .rest
+    ∙ no-room (row n .numbers) (l .loop .inv .full) (row n .count) (most l) (left l) (z n) (number n) (c .before .if1 .taken) ∙ l .loop .inv .rest
 
 mul-n : tie.Need-mul-n Inv-loop μ-loop
 mul-n c = search needs
@@ -158,12 +142,9 @@ returns-3 : tie.Need-returns-3 Inv-loop μ-loop
 returns-3 c =
     let n = c .before .before in
     let l = loop n in
-    let r = l .loop .row in
-    let h : r .count < rowLength = c .before .if1 .left in
     let f = found (finding (reading n)) in
     let d = length-drop (l .loop .from) (line l) in
-    listed-put (r .numbers) (l .loop .inv .full) (r .count) _ h
-    ∙ last-number (listed r) (most l) (left l) _ (number n) (listed-room (r .numbers) (l .loop .inv .full) (r .count) h) (omega (arith, c .if2 .taken))
+    last-number (row n .numbers) (l .loop .inv .full) (row n .count) (most l) (left l) (z n) (number n) (c .before .if1 .left) (omega (arith, c .if2 .taken))
     ∙ l .loop .inv .rest
 
 add-from : tie.Need-add-from Inv-loop μ-loop
@@ -176,20 +157,16 @@ loop-again : tie.Need-loop-again Inv-loop μ-loop
 loop-again c =
     let n = c .before .before in
     let l = loop n in
-    let r = l .loop .row in
-    let h : r .count < rowLength = c .before .if1 .left in
     let f = found (finding (reading n)) in
     let d = length-drop (l .loop .from) (line l) in
-    let i = l .loop .inv .inside in
     let j = indexOf 32 (left l) in
-    let next : l .loop .from + finding (reading n) .find .result + 1 ≡ l .loop .from + (j + 1) = omega arith in
+    let next : finding (reading n) .find .result + 1 ≡ l .loop .from + (j + 1) = omega arith in
     record {
       inside = omega (arith, c .if2 .left);
-      full = length-set (r .numbers) (r .count) (z n) ∙ l .loop .inv .full;
+      full = length-set (row n .numbers) (row n .count) (z n) ∙ l .loop .inv .full;
       rest =
-          ap (λ row. numbersBehind row (most l) (words (drop (l .loop .from + finding (reading n) .find .result + 1) (line l)))) (listed-put (r .numbers) (l .loop .inv .full) (r .count) (z n) h)
-          ∙ ap (λ k. numbersBehind (listed r ++ (z n ∷ [])) (most l) (words k)) (ap (λ k. drop k (line l)) next ∙ sym (drop-drop (j + 1) (l .loop .from) (line l)))
-          ∙ more-numbers (listed r) (most l) (left l) _ (number n) (listed-room (r .numbers) (l .loop .inv .full) (r .count) h) (omega (arith, c .if2 .left))
+          rw (next, ← (drop-drop (j + 1) (l .loop .from) (line l)))
+          (more-numbers (row n .numbers) (l .loop .inv .full) (row n .count) (most l) (left l) (z n) (number n) (c .before .if1 .left) (omega (arith, c .if2 .left)))
           ∙ l .loop .inv .rest;
     }
 
@@ -199,6 +176,6 @@ returns-4 c = absurd (omega (arith, c .before .loop .inv .inside, c .loop-test .
 pub numbers-of-spec : {M : Type 1} → statement M
 numbers-of-spec =
     tie.close
-    (tie.spec Inv-loop μ-loop empty-row-requires loop-holds sub-find part-find-start part-find-end find-requires add-k sub-numeral-of part-numeral-of-start
-    part-numeral-of-end numeral-of-requires enum-known-n enum-told empty-row-requires-2 returns empty-row-requires-3 returns-2 mul-n element-set-from-n
-    add-row returns-3 add-from loop-less loop-again returns-4)
+    (tie.spec Inv-loop μ-loop empty-row-requires loop-holds find-requires sub-numeral-of part-numeral-of-start part-numeral-of-end numeral-of-requires
+    enum-known-n enum-told empty-row-requires-2 returns empty-row-requires-3 returns-2 mul-n element-set-from-n add-row returns-3 add-from loop-less
+    loop-again returns-4)

@@ -1,12 +1,11 @@
--- `lines::numeral_of` meets its contract. Assumes nothing.
-use Prim.Native.Nat.{_^_, _<_}
 use mathlib.Core.Path.{_≡_, sym, ap, _∙_}
+use Prim.Native.Nat.{_^_, _<_}
 use mir.Facts.{toZ-ofZ, toZ-pos}
 use mir.Syntax.{w64}
 use borrow.Author.Needs.{needs}
 use Rattle.digits.proofs.Lists.{tail-part}
+use Rattle.lines.specs.Numerals.{digitsOf, plus, minus, numeralOf}
 use Rattle.lines.specs.declared.Numeral.the-variants.{Number}
-use Rattle.lines.specs.Numbers.{digitsOf, plus, minus, numeralOf}
 use Rattle.lines.proofs.Numerals.{numeral-none, numeral-minus, numeral-plus, plus-fits, minus-fits, zero-less}
 use Rattle.lines.proofs.numeral_of.Statement.{statement}
 use Rattle.lines.proofs.numeral_of.Tie as tie
@@ -96,22 +95,5 @@ returns-5 c =
 pub numeral-of-spec : {M : Type 1} → statement M
 numeral-of-spec =
     tie.close
-    (tie.spec
-    returns
-    shared-slice-read-if2
-    sub-digits-of
-    part-digits-of-start
-    part-digits-of-end
-    digits-of-requires
-    enum-known-n
-    enum-told
-    returns-2
-    cast-t14
-    sub-t15
-    returns-3
-    digits-of-requires-2
-    enum-known-n-2
-    enum-told-2
-    returns-4
-    cast-t17
-    returns-5)
+    (tie.spec returns shared-slice-read-if2 sub-digits-of part-digits-of-start part-digits-of-end digits-of-requires enum-known-n enum-told returns-2
+    cast-t14 sub-t15 returns-3 digits-of-requires-2 enum-known-n-2 enum-told-2 returns-4 cast-t17 returns-5)

@@ -1,7 +1,6 @@
--- `polaris::direction` meets its contract.
 use native.Mathlib.Omega.{arith}
-use borrow.Author.Needs.{needs}
 use mir.Facts.{toZ-ofZ}
+use borrow.Author.Needs.{needs}
 use Rattle.exact.proofs.Machine.{ok-fits}
 use Rattle.polaris.specs.Apparent.{direction}
 use Rattle.polaris.proofs.direction.Statement.{statement}
@@ -13,8 +12,8 @@ tropical-millionths-requires c κs = search needs
 elements-of-requires : tie.Need-elements-of-requires
 elements-of-requires c κs = search needs
 
-place-of-date-requires : tie.Need-place-of-date-requires
-place-of-date-requires c κs = search needs
+true-direction-requires : tie.Need-true-direction-requires
+true-direction-requires c κs = search needs
 
 aberration-requires : tie.Need-aberration-requires
 aberration-requires c κs = search needs
@@ -31,10 +30,10 @@ returns c =
     let p = k .before .tropical-millionths in
     let f = k .before .before .fits in
     let elements = simp (toZ-ofZ, ok-fits (p .result) (p .ok)) at (k .elements-of .ensures .0) in
-    let place = simp (toZ-ofZ, f .obliquity, f .nutation, f .epsilon) at (a .place-of-date .ensures .0) in
+    let star = simp (toZ-ofZ, f .epsilon0, f .dpsi, f .epsilon) at (a .true-direction .ensures .0) in
     let aberration = simp (toZ-ofZ, f .epsilon) at (b .aberration .ensures .0) in
-    (cc (c .plus .ensures .0, p .ensures .0, elements, place, aberration), omega (arith, c .plus .ensures .1, a .place-of-date .ensures .1))
+    (cc (c .plus .ensures .0, p .ensures .0, elements, star, aberration), omega (arith, c .plus .ensures .1, a .true-direction .ensures .1))
 
 pub direction-spec : {M : Type 1} → statement M
 direction-spec =
-    tie.close (tie.spec tropical-millionths-requires elements-of-requires place-of-date-requires aberration-requires plus-requires returns)
+    tie.close (tie.spec tropical-millionths-requires elements-of-requires true-direction-requires aberration-requires plus-requires returns)

@@ -1,18 +1,18 @@
--- `polaris::elements_of` meets its contract: each number is a value of its row.
+-- Each number is a value of its row.
 use mathlib.Core.Path.{_≡_}
 use Prim.Native.Nat.{_<_, _^_}
 use native.Mathlib.Omega.{arith}
-use borrow.Author.Needs.{needs}
 use lib.IntN.{ℤ, natAbs, _+ℤ_}
 use mir.Facts.{toZ-ofZ}
 use mir.Syntax.{w64}
 use mir.Val.{SFits}
+use borrow.Author.Needs.{needs}
 use Rattle.exact.proofs.Differences.{split, zs}
 use Rattle.exact.proofs.Machine.{held}
-use Rattle.secular.specs.Polynomial.{value}
+use Rattle.secular.specs.FlooredPolynomial.{value}
 use Rattle.secular.specs.declared.Polynomial.{Polynomial}
-use Rattle.polaris.specs.Rows.{rightAscension, declination, zeta, zLessZeta, theta}
-use Rattle.polaris.proofs.Rows.{stored, value-of}
+use Rattle.polaris.specs.PrintedElements.{rightAscension, declination, zeta, zLessZeta, theta}
+use Rattle.polaris.proofs.Stored.{stored, value-of}
 use Rattle.polaris.proofs.elements_of.Statement.{statement}
 use Rattle.polaris.proofs.elements_of.Tie as tie
 

@@ -1,32 +1,60 @@
--- `polaris::plus` meets its contract: each sum fits, and the direction is hardly longer.
-use mathlib.Core.Path.{_≡_, refl}
-use Prim.Native.Nat.{ℕ}
-use borrow.Author.Needs.{needs}
-use lib.IntN.{ℤ, pos, _+ℤ_}
-use lib.ListN.{length, getD}
+-- Each sum fits, and the direction is hardly longer.
+use mathlib.Core.Path.{_≡_, refl, sym, ap₂}
+use mathlib.Core.List.{List, [], _∷_}
+use Prim.Native.Nat.{ℕ, _+_, _*_, _^_, _≤_}
+use native.Mathlib.Nat.{mul-le-mul}
+use native.Mathlib.Omega.{arith}
+use lib.IntN.{ℤ, pos, natAbs, _+ℤ_}
+use lib.ListN.{length}
 use mir.Facts.{toZ-ofZ}
 use mir.Syntax.{w64}
 use mir.Val.{SFits}
+use borrow.Author.Needs.{needs}
+use Rattle.exact.specs.Nth.{nth}
+use Rattle.exact.proofs.Differences.{split, zs, abs-dif}
 use Rattle.exact.proofs.Machine.{fits-le}
-use Rattle.rotation.specs.Length.{componentMost}
+use Rattle.rotation.specs.Length.{squaredLength}
+use Rattle.rotation.specs.Sizes.{reach, componentMost, Bounded}
+use Rattle.rotation.proofs.Components.{three}
 use Rattle.rotation.proofs.Sizes.{components-le}
-use Rattle.polaris.specs.Sizes.{aberrationMost}
-use Rattle.polaris.proofs.Sizes.{sum-fits, plus-le}
-use Rattle.polaris.proofs.Place.{plus-is}
+use Rattle.polaris.specs.Apparent.{aberrationParts, plus}
 use Rattle.polaris.proofs.plus.Statement.{statement}
 use Rattle.polaris.proofs.plus.Tie as tie
 
+-- ---- one component
+sum-fits : (x a : ℤ) → natAbs x ≤ componentMost → natAbs a ≤ aberrationParts → SFits w64 (x +ℤ a)
+sum-fits x a = rw (split x, split a) (simp zs (omega arith))
+
+longer : (x a : ℤ) → natAbs x ≤ componentMost → natAbs a ≤ aberrationParts → natAbs (x +ℤ a) * natAbs (x +ℤ a) ≤ natAbs x * natAbs x + 3 * 10 ^ 14
+longer x a h k = let l = sum x a k in omega (arith, mul-le-mul l l)
+  where
+    sum : (x a : ℤ) → natAbs a ≤ aberrationParts → natAbs (x +ℤ a) ≤ natAbs x + aberrationParts
+    sum x a = rw (split x, split a) (simp (zs, abs-dif) (omega arith))
+
+-- ---- the three
+module _ (d a : List ℤ) (l : length d ≡ 3) (k : length a ≡ 3) where
+  plus-is : (nth d 0 +ℤ nth a 0) ∷ (nth d 1 +ℤ nth a 1) ∷ (nth d 2 +ℤ nth a 2) ∷ [] ≡ plus d a
+  unfolding plus
+  plus-is = sym (ap₂ plus (three (pos 0) d l) (three (pos 0) a k))
+
+  plus-le : squaredLength d ≤ reach → Bounded aberrationParts a → squaredLength (plus d a) ≤ squaredLength d + 9 * 10 ^ 14
+  unfolding squaredLength plus
+  plus-le h b = rw (three (pos 0) d l, three (pos 0) a k) (omega (arith, part 0, part 1, part 2))
+    where
+      part : (i : ℕ) → natAbs (nth d i +ℤ nth a i) * natAbs (nth d i +ℤ nth a i) ≤ natAbs (nth d i) * natAbs (nth d i) + 3 * 10 ^ 14
+      part i = longer (nth d i) (nth a i) (components-le d h i) (b i)
+
 module _ (s : tie.Start) (i : ℕ) where
   abbrev x : ℤ
-  x = getD (s .args .t1) i (pos 0)
+  x = nth (s .args .t1) i
 
   abbrev y : ℤ
-  y = getD (s .args .t2) i (pos 0)
+  y = nth (s .args .t2) i
 
   fits : SFits w64 x × SFits w64 y × SFits w64 (x +ℤ y)
   fits =
       let h = components-le (s .args .t1) (s .pre .0) i in
-      (fits-le componentMost x h refl, fits-le aberrationMost y (s .pre .1 i) refl, sum-fits x y h (s .pre .1 i))
+      (fits-le componentMost x h refl, fits-le aberrationParts y (s .pre .1 i) refl, sum-fits x y h (s .pre .1 i))
 
 array-copy-out-t7 : tie.Need-array-copy-out-t7
 array-copy-out-t7 c = search needs

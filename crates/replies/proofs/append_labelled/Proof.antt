@@ -1,10 +1,9 @@
--- `replies::append_labelled` meets its contract. Assumes nothing.
-use native.Mathlib.Omega.{arith}
 use Prim.Native.Nat.{_≤_}
+use native.Mathlib.Omega.{arith}
 use lib.ListN.{length}
-use Rattle.lines.specs.Writing.{decimalText}
-use Rattle.lines.proofs.Appending.{append-both, at-most-twenty}
 use borrow.Author.Needs.{needs}
+use Rattle.lines.specs.Appending.{decimalText}
+use Rattle.lines.proofs.Appending.{append-both, at-most-twenty}
 use Rattle.replies.proofs.append_labelled.Statement.{statement}
 use Rattle.replies.proofs.append_labelled.Tie as tie
 
@@ -33,5 +32,4 @@ returns c =
     (append-both (b .append-bytes .ensures) (d .ensures), omega (arith, b .append-bytes .ensures .ends, d .ensures .ends))
 
 pub append-labelled-spec : {M : Type 1} → statement M
-append-labelled-spec =
-    tie.close (tie.spec append-bytes-requires append-decimal-requires same-length returns)
+append-labelled-spec = tie.close (tie.spec append-bytes-requires append-decimal-requires same-length returns)

@@ -1,7 +1,6 @@
--- `replies::append_pair` meets its contract. Assumes nothing.
 use native.Mathlib.Omega.{arith}
-use Rattle.lines.proofs.Appending.{append-both}
 use borrow.Author.Needs.{needs}
+use Rattle.lines.proofs.Appending.{append-both}
 use Rattle.replies.proofs.append_pair.Statement.{statement}
 use Rattle.replies.proofs.append_pair.Tie as tie
 
@@ -21,5 +20,4 @@ returns c =
     (append-both (f .ensures .0) (l .ensures .0), omega (arith, f .ensures .1, l .ensures .1))
 
 pub append-pair-spec : {M : Type 1} → statement M
-append-pair-spec =
-    tie.close (tie.spec append-labelled-requires append-labelled-requires-2 same-length returns)
+append-pair-spec = tie.close (tie.spec append-labelled-requires append-labelled-requires-2 same-length returns)

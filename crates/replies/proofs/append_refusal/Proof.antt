@@ -1,4 +1,3 @@
--- `replies::append_refusal` meets its contract. Assumes nothing.
 use native.Mathlib.Omega.{arith}
 use borrow.Author.Needs.{needs}
 use Rattle.replies.proofs.append_refusal.Statement.{statement}
@@ -22,11 +21,4 @@ returns c =
     rw (← (c .before .before .before .number-of .ensures .0)) (a .ensures .0, omega (arith, a .ensures .1))
 
 pub append-refusal-spec : {M : Type 1} → statement M
-append-refusal-spec =
-    tie.close
-    (tie.spec
-    slice-aggregate-append-labelled
-    number-of-requires
-    append-labelled-requires
-    same-length
-    returns)
+append-refusal-spec = tie.close (tie.spec slice-aggregate-append-labelled number-of-requires append-labelled-requires same-length returns)

@@ -1,7 +1,6 @@
--- `replies::append_verdict` meets its contract. Assumes nothing.
 use native.Mathlib.Omega.{arith}
-use Rattle.replies.proofs.Refused.{not-zero}
 use borrow.Author.Needs.{needs}
+use Rattle.replies.proofs.Refused.{not-zero}
 use Rattle.replies.proofs.append_verdict.Statement.{statement}
 use Rattle.replies.proofs.append_verdict.Tie as tie
 
@@ -39,13 +38,5 @@ returns-2 c =
 pub append-verdict-spec : {M : Type 1} → statement M
 append-verdict-spec =
     tie.close
-    (tie.spec
-    enum-told
-    slice-aggregate-append-bytes
-    append-bytes-requires
-    enum-known-verdict
-    append-refusal-requires
-    same-length
-    returns
-    same-length-2
-    returns-2)
+    (tie.spec enum-told slice-aggregate-append-bytes append-bytes-requires enum-known-verdict append-refusal-requires same-length returns
+    same-length-2 returns-2)

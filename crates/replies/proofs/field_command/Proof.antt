@@ -1,4 +1,3 @@
--- `replies::field_command` meets its contract. Assumes nothing.
 use mir.Facts.{toZ-ofZ}
 use borrow.Author.Tests.{eq-eqb, ne-eqb}
 use Rattle.replies.proofs.field_command.Statement.{statement}

@@ -1,17 +1,19 @@
--- `replies::read_out` meets its contract: the lent part has room, so that the reading goes by the field alone (`Reading`). Assumes nothing.
-use native.Mathlib.Omega.{arith}
+-- The lent part has room, so that the reading goes by the field alone (`Reading`).
 use mathlib.Core.Path.{_≡_, sym, ap, _∙_}
+use mathlib.Core.List.{List}
 use Prim.Native.Nat.{ℕ, _+_, _-_, _<_, _≤_, _^_}
+use native.Mathlib.Omega.{arith}
 use lib.IntN.{natAbs}
 use lib.ListN.{length, take, drop}
-use mathlib.Core.List.{List}
 use mir.Facts.{toZ-ofZ}
+use borrow.Author.Needs.{needs}
 use Rattle.digits.specs.Writing.{over}
 use Rattle.card.specs.Fields.{numberIn, fieldOf}
-use Rattle.card.specs.Calls.{readingValues, readValuesOf, reading, bufferAfter}
-use Rattle.replies.specs.Answers.{longest, readText, cardRead}
-use Rattle.replies.proofs.Reading.{said, not-said, part-length, appended, appended-instead}
-use borrow.Author.Needs.{needs}
+use Rattle.card.specs.Calls.{readingValues, readValues, read, bufferAfter}
+use Rattle.lines.proofs.Appending.{append-part}
+use Rattle.replies.specs.Sizes.{longest}
+use Rattle.replies.specs.Answers.{readText, cardRead}
+use Rattle.replies.proofs.Reading.{said, not-said, part-length, appended-instead}
 use Rattle.replies.proofs.read_out.Statement.{statement}
 use Rattle.replies.proofs.read_out.Tie as tie
 
@@ -39,12 +41,12 @@ module _ (r : tie.After-read) where
   start = r .before .before .before
 
   abbrev part : List ℕ
-  part = take (start .args .at + longest - start .args .at) (drop (start .args .at) (start .args .out .now))
+  part = take (start .args .place + longest - start .args .place) (drop (start .args .place) (start .args .out .now))
 
   part-size : length part ≡ longest
-  part-size = part-length (start .args .at) (start .args .out .now) (start .pre)
+  part-size = part-length (start .args .place) (start .args .out .now) (start .pre)
 
-  is-read : readValuesOf (r .read .result) ≡ reading (start .args .card) (start .args .field) part 0
+  is-read : readValues (r .read .result) ≡ read (start .args .card) (start .args .field) part 0
   is-read = let z = toZ-ofZ (start .fits .field) in rw z at (r .read .ensures .0)
 
   is-written : r .read .last .1 .1 .0 ≡ bufferAfter (start .args .card) (start .args .field) part 0
@@ -93,7 +95,7 @@ returns c =
     let a = start d .args in
     let w = is-said (c .before) in (
       w .1,
-      (appended (a .out .now) (d .read .last .1 .1 .0) _ (a .at) (k (c .before)) (start d .pre) (w .0) (w .3) (is-written d ∙ w .2), omega (arith, w .3)),
+      (append-part (a .out .now) _ _ _ (a .place) (a .place + longest - a .place) (k (c .before)) (omega (arith, start d .pre)) (w .0) (is-written d ∙ w .2), omega (arith, w .3)),
     )
 
 same-length-2 : tie.Need-same-length-2
@@ -108,23 +110,11 @@ returns-2 c =
     let w = not-said (a .card) (a .field) (part d) (part-size d) (small d) (r .reading2 .given .0 .0) (d .read .result .card)
     (ap (λ x. readingValues x (d .read .result .card)) (sym (r .reading2 .given .1)) ∙ is-read d) in (
       w .1,
-      (rw (← (w .0)) (appended-instead (a .out .now) (d .read .last .1 .1 .0) _ _ (a .at) _ (start d .pre) (f .append-refusal .ensures .0)), f .append-refusal .ensures .1),
+      (rw (← (w .0)) (appended-instead (a .out .now) (d .read .last .1 .1 .0) _ _ (a .place) _ (start d .pre) (f .append-refusal .ensures .0)), f .append-refusal .ensures .1),
     )
 
 pub read-out-spec : {M : Type 1} → statement M
 read-out-spec =
     tie.close
-    (tie.spec
-    add-end
-    sub-read
-    part-read-start
-    part-read-end
-    read-requires
-    enum-known-reading
-    add-end-2
-    enum-known-reading-2
-    append-refusal-requires
-    same-length
-    returns
-    same-length-2
-    returns-2)
+    (tie.spec add-end sub-read part-read-start part-read-end read-requires enum-known-reading add-end-2 enum-known-reading-2 append-refusal-requires
+    same-length returns same-length-2 returns-2)

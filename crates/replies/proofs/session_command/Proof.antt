@@ -1,11 +1,10 @@
--- `replies::session_command` meets its contract. Assumes nothing.
 use mathlib.Core.Path.{ap, _∙_}
 use lib.ListN.{getD}
-use Rattle.digits.proofs.Lists.{tail-part}
-use Rattle.lines.specs.Numbers.{numbersOf}
-use Rattle.replies.specs.Commands.{spoken}
-use Rattle.replies.proofs.Grammar.{no-bytes, one-letter, another-letter, no-space, behind-space}
 use borrow.Author.Needs.{needs}
+use Rattle.digits.proofs.Lists.{tail-part}
+use Rattle.lines.specs.Numerals.{numbersOf}
+use Rattle.replies.specs.Commands.{letterCommand}
+use Rattle.replies.proofs.Grammar.{no-bytes, one-letter, another-letter, no-space, behind-space}
 use Rattle.replies.proofs.session_command.Statement.{statement}
 use Rattle.replies.proofs.session_command.Tie as tie
 
@@ -42,8 +41,8 @@ part-numbers-of-end c = search needs
 numbers-of-requires : tie.Need-numbers-of-requires
 numbers-of-requires c κs = search needs
 
-spoken-command-requires : tie.Need-spoken-command-requires
-spoken-command-requires c κs = search needs
+letter-command-requires : tie.Need-letter-command-requires
+letter-command-requires c κs = search needs
 
 returns-5 : tie.Need-returns-5
 returns-5 c =
@@ -52,23 +51,12 @@ returns-5 c =
     let e = t .before .before in
     let b = e .before .before in
     let l = b .before .before .args .line .now in
-    c .spoken-command .ensures
-    ∙ ap (spoken (getD l 0 0)) (n .numbers-of .ensures ∙ ap (numbersOf 9) (tail-part 2 l))
+    c .letter-command .ensures
+    ∙ ap (letterCommand (getD l 0 0)) (n .numbers-of .ensures ∙ ap (numbersOf 9) (tail-part 2 l))
     ∙ behind-space l (b .if1 .left) (e .if2 .left) (t .if4 .left)
 
 pub session-command-spec : {M : Type 1} → statement M
 session-command-spec =
     tie.close
-    (tie.spec
-    returns
-    shared-slice-read-letter
-    returns-2
-    returns-3
-    shared-slice-read-if4
-    returns-4
-    sub-numbers-of
-    part-numbers-of-start
-    part-numbers-of-end
-    numbers-of-requires
-    spoken-command-requires
-    returns-5)
+    (tie.spec returns shared-slice-read-letter returns-2 returns-3 shared-slice-read-if4 returns-4 sub-numbers-of part-numbers-of-start
+    part-numbers-of-end numbers-of-requires letter-command-requires returns-5)

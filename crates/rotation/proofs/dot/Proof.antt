@@ -1,20 +1,21 @@
--- `rotation::dot` meets its contract: each product and each sum fits, since the entries and the components are small (`proofs/Sizes.antt`).
+-- Each product and each sum fits, since the entries and the components are small (`proofs/Sizes.antt`).
 use mathlib.Core.Path.{_≡_}
 use Prim.Native.Nat.{ℕ}
 use lib.ListN.{length}
-use borrow.Author.Needs.{needs}
 use mir.Facts.{toZ-ofZ}
 use mir.Syntax.{w64}
 use mir.Val.{SFits}
-use Rattle.rotation.proofs.Sizes.{at, product, Sums, sums-fit, entry-fits, component-fits, dot-is}
+use borrow.Author.Needs.{needs}
+use Rattle.exact.specs.Nth.{nth}
+use Rattle.rotation.proofs.Sizes.{product, Sums, sums-fit, entry-fits, component-fits, dot-is}
 use Rattle.rotation.proofs.dot.Statement.{statement}
 use Rattle.rotation.proofs.dot.Tie as tie
 
 module _ (s : tie.Start) where
-  x : (i : ℕ) → SFits w64 (at (s .args .t1) i)
+  x : (i : ℕ) → SFits w64 (nth (s .args .t1) i)
   x = entry-fits (s .args .t1) (s .args .t2) (s .pre .0) (s .pre .1)
 
-  y : (i : ℕ) → SFits w64 (at (s .args .t2) i)
+  y : (i : ℕ) → SFits w64 (nth (s .args .t2) i)
   y = component-fits (s .args .t1) (s .args .t2) (s .pre .0) (s .pre .1)
 
   f : Sums (product (s .args .t1) (s .args .t2) 0) (product (s .args .t1) (s .args .t2) 1) (product (s .args .t1) (s .args .t2) 2)

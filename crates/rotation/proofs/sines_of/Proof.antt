@@ -1,12 +1,10 @@
--- `rotation::sines_of` meets its contract.
 use mathlib.Core.Path.{ap, _∙_}
 use native.Mathlib.Omega.{arith}
-use borrow.Author.Needs.{needs}
 use lib.IntN.{negℤ}
 use mir.Facts.{toZ-ofZ}
-use Rattle.exact.proofs.Machine.{ok-fits}
+use borrow.Author.Needs.{needs}
+use Rattle.exact.proofs.Machine.{ok-fits, negated}
 use Rattle.sine.specs.Sine.{Sin, Cos}
-use Rattle.rotation.proofs.Signed.{negated}
 use Rattle.rotation.proofs.sines_of.Statement.{statement}
 use Rattle.rotation.proofs.sines_of.Tie as tie
 

@@ -1,6 +1,5 @@
--- `secular::value` meets its contract, for any coefficients of the sizes stated.
 use mathlib.Core.Path.{_≡_, refl, ap₂, subst⁻¹}
-use Prim.Native.Nat.{_+_, _*_, _≤_, _^_}
+use Prim.Native.Nat.{_*_, _≤_, _^_}
 use native.Mathlib.Omega.{arith}
 use lib.IntN.{ℤ, pos, natAbs, _+ℤ_, _*ℤ_}
 use lib.Signed.{_≤ℤ_, _<ℤ_, ltZ-yes}
@@ -11,8 +10,8 @@ use Rattle.exact.specs.Division.{floorDiv}
 use Rattle.exact.proofs.Differences.{split, zs}
 use Rattle.exact.proofs.Integers.{abs-*-le}
 use Rattle.exact.proofs.Machine.{ok-fits, fits-le}
-use Rattle.secular.specs.Polynomial.{value}
-use Rattle.secular.specs.Sizes.{Sized, largest, most}
+use Rattle.secular.specs.FlooredPolynomial.{value}
+use Rattle.secular.specs.Sizes.{Sized, mostMillionths, most}
 use Rattle.secular.specs.declared.Polynomial.{Polynomial}
 use Rattle.secular.proofs.Bound.{square-le, linear-le, value-le}
 use Rattle.secular.proofs.value.Statement.{statement}
@@ -25,7 +24,7 @@ divisor-in d = rw (split d) (simp zs (omega arith))
 two-fit : (a b : ℤ) → natAbs a ≤ 2 ^ 40 → natAbs b ≤ 2 ^ 26 → SFits w64 (a +ℤ b)
 two-fit a b = rw (split a, split b) (simp zs (omega arith))
 
--- ---- what is known at each place
+-- ---- what is known from the start
 module _ (s : tie.Start) where
   abbrev c : Polynomial
   c = s .args .c
@@ -44,17 +43,17 @@ module _ (s : tie.Start) where
     divisor-in (c .divisor) (sized .low) (sized .high) .0,
   )
 
-  c1x-le : natAbs (c .c1 *ℤ x) ≤ 2 ^ 25 * largest
-  c1x-le = abs-*-le (c .c1) x (2 ^ 25) largest (sized .c1) (s .pre .1)
+  c1x-le : natAbs (c .c1 *ℤ x) ≤ 2 ^ 25 * mostMillionths
+  c1x-le = abs-*-le (c .c1) x (2 ^ 25) mostMillionths (sized .c1) (s .pre .1)
 
-  c2x²-le : natAbs (c .c2 *ℤ (x *ℤ x)) ≤ 2 * 10 ^ 6 * (largest * largest)
-  c2x²-le = abs-*-le (c .c2) (x *ℤ x) (2 * 10 ^ 6) (largest * largest) (sized .c2) (square-le x (s .pre .1))
+  c2x²-le : natAbs (c .c2 *ℤ (x *ℤ x)) ≤ 2 * 10 ^ 6 * (mostMillionths * mostMillionths)
+  c2x²-le = abs-*-le (c .c2) (x *ℤ x) (2 * 10 ^ 6) (mostMillionths * mostMillionths) (sized .c2) (square-le x (s .pre .1))
 
   products : SFits w64 (c .c1 *ℤ x) × SFits w64 (x *ℤ x) × SFits w64 (c .c2 *ℤ (x *ℤ x))
   products = (
-    fits-le (2 ^ 25 * largest) (c .c1 *ℤ x) c1x-le refl,
-    fits-le (largest * largest) (x *ℤ x) (square-le x (s .pre .1)) refl,
-    fits-le (2 * 10 ^ 6 * (largest * largest)) (c .c2 *ℤ (x *ℤ x)) c2x²-le refl,
+    fits-le (2 ^ 25 * mostMillionths) (c .c1 *ℤ x) c1x-le refl,
+    fits-le (mostMillionths * mostMillionths) (x *ℤ x) (square-le x (s .pre .1)) refl,
+    fits-le (2 * 10 ^ 6 * (mostMillionths * mostMillionths)) (c .c2 *ℤ (x *ℤ x)) c2x²-le refl,
   )
 
   abbrev linear : ℤ

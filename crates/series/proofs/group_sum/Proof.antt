@@ -1,16 +1,16 @@
--- `series::group_sum` meets its contract: at each turn the sum so far and the rows that are left give the whole, at every q.
+-- In each round the sum so far and the rows that are left give the whole, at every q.
 use mathlib.Core.Path.{_≡_, refl, _∙_}
 use mathlib.Core.List.{List, [], map}
 use Prim.Native.Nat.{ℕ, suc, _+_, _-_, _≤_, _<_}
 use native.Mathlib.Numerals.{add-one}
 use native.Mathlib.Omega.{arith}
-use borrow.Author.Needs.{needs}
 use lib.IntN.{ℤ, pos, _+ℤ_}
 use lib.ListN.{length, getD}
 use mir.Facts.{toZ-ofZ}
 use mir.Syntax.{w64}
 use mir.Val.{SFits, ofZ, toZ}
-use Rattle.exact.specs.Angle.{turn}
+use borrow.Author.Needs.{needs}
+use Rattle.exact.specs.Reduction.{turn}
 use Rattle.exact.proofs.Machine.{ok-fits, fits-lt}
 use Rattle.sine.specs.Sine.{Sin}
 use Rattle.series.specs.Term.{Term, value}
@@ -79,7 +79,7 @@ steady-product-requires c κs =
     simp (toZ-ofZ, argument-fits s i, argument-fits s j, argument-fits s k)
     (s .pre .sines, s .pre .small (l .loop .n) (omega arith), a i, a j, a k)
 
--- ---- a turn of the loop
+-- ---- a round
 module _ (c : tie.After-steady-product Inv-loop μ-loop) where
   abbrev loop : tie.At-loop Inv-loop μ-loop
   loop = c .before .before .before
@@ -90,27 +90,36 @@ module _ (c : tie.After-steady-product Inv-loop μ-loop) where
   abbrev p : ℤ
   p = c .steady-product .result
 
-  inside : loop .loop .n < length (rows start)
+  abbrev n : ℕ
+  n = loop .loop .n
+
+  abbrev sum : ℕ
+  sum = loop .loop .sum
+
+  inside : n < length (rows start)
   inside = omega arith
 
-  product-is : (q : ℤ) → p ≡ value Sin (arguments start) q (term start (getD (rows start) (loop .loop .n) []))
+  product-is : (q : ℤ) → p ≡ value Sin (arguments start) q (term start (getD (rows start) n []))
   product-is q =
       let i = start .args .i in
       let j = start .args .j in
       let k = start .args .k in
       simp (toZ-ofZ, argument-fits start i, argument-fits start j, argument-fits start k) at (c .steady-product .ensures)
-      ∙ steady-value (arguments start) Sin q i j k (getD (rows start) (loop .loop .n) [])
+      ∙ steady-value (arguments start) Sin q i j k (getD (rows start) n [])
 
-  turn-fits : SFits w64 (toZ w64 (loop .loop .sum) +ℤ p)
-  turn-fits =
-      row-fits (arguments start) (pos 0) (term start) (rows start) (loop .loop .n) (loop .loop .sum) p inside (loop .loop .inv .2 (pos 0)) (product-is (pos 0))
-      (omega arith) (start .pre .light)
+  round-fits : SFits w64 (toZ w64 sum +ℤ p)
+  round-fits =
+      row-fits (arguments start) (pos 0) (term start) (rows start) n sum p inside (loop .loop .inv .2 (pos 0)) (product-is (pos 0)) (omega arith)
+      (start .pre .light)
+
+  next : (q : ℤ) → RowsLeft (arguments start) q (term start) (rows start) (suc n) (ofZ w64 (toZ w64 sum +ℤ p))
+  next q = row-next (arguments start) q (term start) (rows start) n sum p inside (loop .loop .inv .2 q) (product-is q) round-fits
 
   p-fits : SFits w64 p
   p-fits = ok-fits p (c .steady-product .ok)
 
 add-sum : tie.Need-add-sum Inv-loop μ-loop
-add-sum c = simp (toZ-ofZ, p-fits c) (turn-fits c)
+add-sum c = simp (toZ-ofZ, p-fits c) (round-fits c)
 
 add-n : tie.Need-add-n Inv-loop μ-loop
 add-n c = omega arith
@@ -119,11 +128,7 @@ loop-less : tie.Need-loop-less Inv-loop μ-loop
 loop-less c = omega arith
 
 loop-again : tie.Need-loop-again Inv-loop μ-loop
-loop-again c =
-    let l = loop c in
-    let s = start c in
-    let next : (q : ℤ) → RowsLeft (arguments s) q (term s) (rows s) (suc (l .loop .n)) (ofZ w64 (toZ w64 (l .loop .sum) +ℤ p c)) = λ q. row-next (arguments s) q (term s) (rows s) (l .loop .n) (l .loop .sum) (p c) (inside c) (l .loop .inv .2 q) (product-is c q) (turn-fits c) in
-    simp (toZ-ofZ, p-fits c, add-one) (refl, omega arith, next)
+loop-again c = simp (toZ-ofZ, p-fits c, add-one) (refl, omega arith, next c)
 
 returns : tie.Need-returns Inv-loop μ-loop
 returns c =

@@ -1,12 +1,12 @@
--- `series::product` meets its contract: the amplitude is at most 2^29 and a sine at most R.
+-- The amplitude is at most 2^29 and a sine at most R.
 use mathlib.Core.Path.{_≡_, refl, ap, _∙_}
 use Prim.Native.Nat.{_*_, _^_}
-use borrow.Author.Needs.{needs}
 use lib.IntN.{ℤ, _*ℤ_}
 use mir.Facts.{toZ-ofZ}
 use mir.Syntax.{w64}
 use mir.Val.{SFits}
-use Rattle.exact.specs.Angle.{reduced}
+use borrow.Author.Needs.{needs}
+use Rattle.exact.specs.Reduction.{reduced}
 use Rattle.exact.proofs.Integers.{abs-*-le}
 use Rattle.exact.proofs.Machine.{ok-fits, fits-le}
 use Rattle.sine.specs.Sine.{R, Sin}

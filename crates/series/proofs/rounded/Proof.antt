@@ -1,4 +1,4 @@
--- `series::rounded` meets its contract: no quotient is larger than what the sum is at most R times.
+-- No quotient is larger than what the sum is at most R times.
 use mathlib.Core.Path.{subst⁻¹}
 use Prim.Native.Nat.{_≤_}
 use native.Mathlib.Omega.{arith}

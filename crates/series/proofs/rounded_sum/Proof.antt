@@ -1,17 +1,17 @@
--- `series::rounded_sum` meets its contract: the sum is light enough to be rounded.
+-- The sum is light enough to be rounded.
 use mathlib.Core.Path.{_≡_, ap, _∙_}
-use mathlib.Core.List.{List, _++_}
+use mathlib.Core.List.{List}
 use native.Mathlib.Omega.{arith}
 use lib.IntN.{ℤ}
 use mir.Facts.{toZ-ofZ}
 use mir.Syntax.{w64}
 use mir.Val.{SFits}
-use Rattle.exact.specs.Division.{nearest}
+use Rattle.exact.specs.Division.{nearestDiv}
 use Rattle.exact.proofs.Machine.{ok-fits}
 use Rattle.sine.specs.Sine.{R, Sin}
 use Rattle.series.specs.Term.{Term}
 use Rattle.series.specs.Sum.{total, tableSum, weights}
-use Rattle.series.specs.Rows.{varyingTerms, steadyTerms}
+use Rattle.series.specs.Rows as Rows
 use Rattle.series.proofs.rounded_sum.Statement.{statement}
 use Rattle.series.proofs.rounded_sum.Tie as tie
 
@@ -23,7 +23,7 @@ module _ (c : tie.After-sum) where
   start = c .before
 
   abbrev terms : List Term
-  terms = varyingTerms (start .args .varying .now) ++ steadyTerms (start .args .groups .now) (start .args .rows .now)
+  terms = Rows.terms (start .args .varying .now) (start .args .groups .now) (start .args .rows .now)
 
   sum-is : c .sum .result ≡ total Sin (start .args .arguments .now) (start .args .q) terms
   sum-is = simp (toZ-ofZ, start .fits .q) at (c .sum .ensures .0)
@@ -40,7 +40,7 @@ returns c =
     let d = c .before in
     let e = simp (toZ-ofZ, sum-fits d) at (c .rounded .ensures) in
     simp (toZ-ofZ, ok-fits (c .rounded .result) (c .rounded .ok))
-    (e .0 ∙ ap (λ (z : ℤ). nearest z R) (sum-is d), e .1 (weights (terms d)) (d .sum .ensures .1))
+    (e .0 ∙ ap (λ (z : ℤ). nearestDiv z R) (sum-is d), e .1 (weights (terms d)) (d .sum .ensures .1))
 
 pub rounded-sum-spec : {M : Type 1} → statement M
 rounded-sum-spec = tie.close (tie.spec sum-requires rounded-requires returns)

@@ -1,16 +1,17 @@
--- `series::steady_product` meets its contract: each multiple of an argument is small, so that the sums fit.
+-- Each multiple of an argument is small, so that the sums fit.
 use mathlib.Core.Path.{refl}
 use Prim.Native.Nat.{ℕ, _≤_, _^_}
 use native.Mathlib.Omega.{arith}
-use borrow.Author.Needs.{needs}
 use lib.Dec.{lit<}
 use lib.IntN.{ℤ, natAbs, _+ℤ_, _*ℤ_}
 use mir.Facts.{toZ-ofZ}
 use mir.Syntax.{w64}
 use mir.Val.{SFits}
+use borrow.Author.Needs.{needs}
+use Rattle.exact.specs.Nth.{nth}
 use Rattle.exact.proofs.Differences.{split, zs}
 use Rattle.exact.proofs.Machine.{ok-fits, fits-le}
-use Rattle.series.specs.Rows.{number, steadyAngle}
+use Rattle.series.specs.Rows.{steadyAngle}
 use Rattle.series.proofs.Sizes.{multiple-le}
 use Rattle.series.proofs.steady_product.Statement.{statement}
 use Rattle.series.proofs.steady_product.Tie as tie
@@ -21,7 +22,7 @@ sums k a b c = rw (split k, split a, split b, split c) (simp zs (omega arith))
 
 module _ (s : tie.Start) where
   abbrev at : ℕ → ℤ
-  at i = number (s .args .t2) i
+  at i = nth (s .args .t2) i
 
   -- the numbers of the row
   fit : SFits w64 (at 0) × SFits w64 (at 1) × SFits w64 (at 2) × SFits w64 (at 3) × SFits w64 (at 4)

@@ -1,21 +1,21 @@
--- `series::steady_sum` meets its contract: at each turn the sum so far and the groups that are left give the whole, at every q.
+-- In each round the sum so far and the groups that are left give the whole, at every q.
 use mathlib.Core.Path.{_≡_, refl, subst}
 use mathlib.Core.List.{List, [], _++_}
 use Prim.Native.Nat.{ℕ, suc, _+_, _-_, _≤_, _<_}
 use native.Mathlib.Numerals.{add-one}
 use native.Mathlib.Omega.{arith}
-use borrow.Author.Needs.{needs}
 use lib.Dec.{lit<}
 use lib.IntN.{ℤ, pos, _+ℤ_}
 use lib.ListN.{length, getD, drop, drop-of-length-le}
 use mir.Facts.{toZ-ofZ}
 use mir.Syntax.{w64}
 use mir.Val.{SFits, ofZ, toZ}
+use borrow.Author.Needs.{needs}
 use Rattle.exact.proofs.Machine.{ok-fits}
 use Rattle.sine.specs.Sine.{Sin}
 use Rattle.series.specs.Term.{Term}
 use Rattle.series.specs.Sum.{total}
-use Rattle.series.specs.Rows.{count, steadyTerms}
+use Rattle.series.specs.Rows.{rowCount, steadyTerms}
 use Rattle.series.specs.Sizes.{counts, AtMost, steadyBounds}
 use Rattle.series.proofs.Sizes.{each-part}
 use Rattle.series.proofs.Sums.{sum-le}
@@ -53,7 +53,7 @@ shared-slice-copy-out-group c = omega arith
 array-read-to : tie.Need-array-read-to Inv-loop μ-loop
 array-read-to c = search needs
 
--- ---- the group of a turn
+-- ---- the group of a round
 module _ (c : tie.After-group Inv-loop μ-loop) where
   abbrev loop : tie.At-loop Inv-loop μ-loop
   loop = c .before .before
@@ -74,7 +74,7 @@ module _ (c : tie.After-group Inv-loop μ-loop) where
   inside = omega arith
 
   -- its rows and those of the groups behind it are there
-  room : from + count group + counts (drop (suc i) (groups start)) ≤ length (rows start)
+  room : from + rowCount group + counts (drop (suc i) (groups start)) ≤ length (rows start)
   room = let e = counts-next (groups start) (rows start) i from inside in omega (arith, loop .loop .inv .2)
 
   abbrev whole : List Term
@@ -123,23 +123,23 @@ group-sum-requires : tie.Need-group-sum-requires Inv-loop μ-loop
 group-sum-requires c κs =
     let d = c .before in
     let s = start d in
-    let p = s .pre .placed (i d) (inside d) in
+    let p = s .pre .indexed (i d) (inside d) in
     let m = room d in
-    rw (as-many (from d) (count (group d)))
+    rw (as-many (from d) (rowCount (group d)))
     (record {
       sines = s .pre .sines;
       angles = s .pre .angles;
       first = p 0 (lit< tt);
       second = p 1 (lit< tt);
       third = p 2 (lit< tt);
-      small = each-part (AtMost steadyBounds) (rows s) (from d) (count (group d)) (omega arith) (s .pre .small);
+      small = each-part (AtMost steadyBounds) (rows s) (from d) (rowCount (group d)) (omega arith) (s .pre .small);
       light = lights (some d) (rest d) (left d (pos 0) .1) .0;
     })
 
 -- ---- what it adds
 module _ (c : tie.After-group-sum Inv-loop μ-loop) where
-  abbrev turn : tie.After-group Inv-loop μ-loop
-  turn = c .before .before
+  abbrev round : tie.After-group Inv-loop μ-loop
+  round = c .before .before
 
   abbrev p : ℤ
   p = c .group-sum .result
@@ -147,20 +147,20 @@ module _ (c : tie.After-group-sum Inv-loop μ-loop) where
   p-fits : SFits w64 p
   p-fits = ok-fits p (c .group-sum .ok)
 
-  p-is : (q : ℤ) → p ≡ total Sin (arguments (start turn)) q (some turn)
-  p-is = rw (as-many (from turn) (count (group turn))) at (c .group-sum .ensures)
+  p-is : (q : ℤ) → p ≡ total Sin (arguments (start round)) q (some round)
+  p-is = rw (as-many (from round) (rowCount (group round))) at (c .group-sum .ensures)
 
-  turn-fits : SFits w64 (toZ w64 (loop turn .loop .sum) +ℤ p)
-  turn-fits =
-      left-fits (arguments (start turn)) (pos 0) (whole turn) (some turn) (rest turn) (loop turn .loop .sum) p (left turn (pos 0)) (p-is (pos 0))
-      (omega arith) (start turn .pre .light)
+  round-fits : SFits w64 (toZ w64 (loop round .loop .sum) +ℤ p)
+  round-fits =
+      left-fits (arguments (start round)) (pos 0) (whole round) (some round) (rest round) (loop round .loop .sum) p (left round (pos 0)) (p-is (pos 0))
+      (omega arith) (start round .pre .light)
 
-  next : (q : ℤ) → Left (arguments (start turn)) q (whole turn) (rest turn) (ofZ w64 (toZ w64 (loop turn .loop .sum) +ℤ p))
+  next : (q : ℤ) → Left (arguments (start round)) q (whole round) (rest round) (ofZ w64 (toZ w64 (loop round .loop .sum) +ℤ p))
   next q =
-      left-next (arguments (start turn)) q (whole turn) (some turn) (rest turn) (loop turn .loop .sum) p (left turn q) (p-is q) turn-fits
+      left-next (arguments (start round)) q (whole round) (some round) (rest round) (loop round .loop .sum) p (left round q) (p-is q) round-fits
 
 add-sum : tie.Need-add-sum Inv-loop μ-loop
-add-sum c = simp (toZ-ofZ, p-fits c) (turn-fits c)
+add-sum c = simp (toZ-ofZ, p-fits c) (round-fits c)
 
 add-i : tie.Need-add-i Inv-loop μ-loop
 add-i c = omega arith
@@ -169,7 +169,7 @@ loop-less : tie.Need-loop-less Inv-loop μ-loop
 loop-less c = omega arith
 
 loop-again : tie.Need-loop-again Inv-loop μ-loop
-loop-again c = simp (toZ-ofZ, p-fits c, add-one) (refl, omega arith, room (turn c), next c)
+loop-again c = simp (toZ-ofZ, p-fits c, add-one) (refl, omega arith, room (round c), next c)
 
 returns : tie.Need-returns Inv-loop μ-loop
 unfolding steadyTerms
@@ -184,24 +184,6 @@ returns c =
 pub steady-sum-spec : {M : Type 1} → statement M
 steady-sum-spec =
     tie.close
-    (tie.spec
-    Inv-loop
-    μ-loop
-    loop-holds
-    mul-group
-    shared-slice-copy-out-group
-    array-read-to
-    add-to
-    array-read-group-sum
-    array-read-group-sum-2
-    array-read-group-sum-3
-    mul-group-sum
-    sub-group-sum
-    part-group-sum-start
-    part-group-sum-end
-    group-sum-requires
-    add-sum
-    add-i
-    loop-less
-    loop-again
+    (tie.spec Inv-loop μ-loop loop-holds mul-group shared-slice-copy-out-group array-read-to add-to array-read-group-sum array-read-group-sum-2
+    array-read-group-sum-3 mul-group-sum sub-group-sum part-group-sum-start part-group-sum-end group-sum-requires add-sum add-i loop-less loop-again
     returns)

@@ -1,14 +1,14 @@
--- `series::sum` meets its contract: two sums of one series, each small.
+-- Two sums of one series, each small.
 use mathlib.Core.Path.{_≡_, refl, ap₂, _∙_}
 use mathlib.Core.List.{List, _++_}
 use Prim.Native.Nat.{ℕ, _+_, _*_, _≤_}
 use native.Mathlib.Nat.{le-trans}
 use native.Mathlib.Omega.{arith}
-use borrow.Author.Needs.{needs}
 use lib.IntN.{ℤ, natAbs, _+ℤ_}
 use mir.Facts.{toZ-ofZ}
 use mir.Syntax.{w64}
 use mir.Val.{SFits}
+use borrow.Author.Needs.{needs}
 use Rattle.exact.proofs.Differences.{split, zs}
 use Rattle.exact.proofs.Machine.{ok-fits, fits-le}
 use Rattle.sine.specs.Sine.{R, Sin}

@@ -1,9 +1,8 @@
--- `series::varying_product` meets its contract, by the law of rows.
+-- By the law of rows.
 use mathlib.Core.Path.{_≡_, refl, ap, _∙_}
 use mathlib.Core.List.{List}
 use Prim.Native.Nat.{ℕ, _+_, _*_, _≤_, _<_, _^_}
 use native.Mathlib.Omega.{arith}
-use borrow.Author.Needs.{needs}
 use lib.Dec.{lit<}
 use lib.IntN.{ℤ, pos, natAbs, _+ℤ_, _*ℤ_}
 use lib.ListN.{getD}
@@ -11,14 +10,15 @@ use lib.Signed.{leZ-yes}
 use mir.Facts.{toZ-ofZ}
 use mir.Syntax.{w64}
 use mir.Val.{SFits}
-use Rattle.exact.specs.Angle.{turn, reduced}
+use borrow.Author.Needs.{needs}
+use Rattle.exact.specs.Reduction.{turn, reduced}
+use Rattle.exact.specs.Nth.{nth}
 use Rattle.exact.proofs.Differences.{split, zs}
 use Rattle.exact.proofs.Machine.{ok-fits, fits-le, fits-lt, to-nat}
-use Rattle.secular.specs.Polynomial as secular
+use Rattle.secular.specs.FlooredPolynomial as secular
 use Rattle.secular.specs.Sizes.{Sized, most}
 use Rattle.secular.specs.declared.Polynomial.{Polynomial}
 use Rattle.sine.specs.Sine.{Sin}
-use Rattle.series.specs.Rows.{number}
 use Rattle.series.proofs.Rows.{varying-value}
 use Rattle.series.proofs.Sizes.{multiple-le}
 use Rattle.series.proofs.varying_product.Statement.{statement}
@@ -29,7 +29,7 @@ sum-fits k a = rw (split k, split a) (simp zs (omega arith))
 
 module _ (s : tie.Start) where
   abbrev at : ℕ → ℤ
-  at i = number (s .args .t2) i
+  at i = nth (s .args .t2) i
 
   abbrev arguments : List ℤ
   arguments = s .args .arguments .now
@@ -75,11 +75,11 @@ module _ (s : tie.Start) where
   angle : SFits w64 (at 3 +ℤ at 4 *ℤ argument) × (natAbs (at 3 +ℤ at 4 *ℤ argument) ≤ 2 ^ 61)
   angle = sum-fits (at 3) (at 4 *ℤ argument) (small .3) times-le
 
-place-fits : (c : tie.After-place2) → SFits w64 (at (c .before .before .before .before) 5)
-place-fits c = ok-fits _ (c .place2 .given)
+index-fits : (c : tie.After-index2) → SFits w64 (at (c .before .before .before .before) 5)
+index-fits c = ok-fits _ (c .index2 .given)
 
-array-copy-out-place : tie.Need-array-copy-out-place
-array-copy-out-place c = search needs
+array-copy-out-index : tie.Need-array-copy-out-index
+array-copy-out-index c = search needs
 
 array-copy-out-product : tie.Need-array-copy-out-product
 array-copy-out-product c = search needs
@@ -87,13 +87,13 @@ array-copy-out-product c = search needs
 array-copy-out-product-2 : tie.Need-array-copy-out-product-2
 array-copy-out-product-2 c = search needs
 
-array-copy-out-place-2 : tie.Need-array-copy-out-place-2
-array-copy-out-place-2 c = search needs
+array-copy-out-index-2 : tie.Need-array-copy-out-index-2
+array-copy-out-index-2 c = search needs
 
-cast-place : tie.Need-cast-place
-cast-place c =
+cast-index : tie.Need-cast-index
+cast-index c =
     let s = c .before .before .before .before in
-    simp (toZ-ofZ, place-fits c) (to-nat (at s 5) (s .pre .3 .natural) (place-fits c))
+    simp (toZ-ofZ, index-fits c) (to-nat (at s 5) (s .pre .3 .natural) (index-fits c))
 
 value-requires : tie.Need-value-requires
 value-requires c κs =
@@ -118,10 +118,10 @@ array-copy-out-product-4 : tie.Need-array-copy-out-product-4
 array-copy-out-product-4 c = search needs
 
 mul-product : tie.Need-mul-product
-mul-product c = simp (toZ-ofZ, place-fits (c .before .before .before)) (search needs)
+mul-product c = simp (toZ-ofZ, index-fits (c .before .before .before)) (search needs)
 
 shared-slice-copy-out-product : tie.Need-shared-slice-copy-out-product
-shared-slice-copy-out-product c = simp (toZ-ofZ, place-fits (c .before .before .before)) (first (c .before .before) .pre .3 .placed)
+shared-slice-copy-out-product c = simp (toZ-ofZ, index-fits (c .before .before .before)) (first (c .before .before) .pre .3 .indexed)
 
 -- ---- the angle
 module _ (c : tie.After-product-arg5) where
@@ -132,30 +132,30 @@ module _ (c : tie.After-product-arg5) where
   start = first value
 
 mul-product-2 : tie.Need-mul-product-2
-mul-product-2 c = let s = start c in simp (toZ-ofZ, place-fits (value c .before), fit s .4, argument-fits s) (times-fits s)
+mul-product-2 c = let s = start c in simp (toZ-ofZ, index-fits (value c .before), fit s .4, argument-fits s) (times-fits s)
 
 add-product : tie.Need-add-product
 add-product c =
     let s = start c in
-    simp (toZ-ofZ, place-fits (value c .before), fit s .3, fit s .4, argument-fits s, times-fits s) (angle s .0)
+    simp (toZ-ofZ, index-fits (value c .before), fit s .3, fit s .4, argument-fits s, times-fits s) (angle s .0)
 
 product-requires : tie.Need-product-requires
 product-requires c κs =
     let s = start c in
     let v = value-is (value c) .1 in
-    simp (toZ-ofZ, place-fits (value c .before), value-fits (value c), fit s .3, fit s .4, argument-fits s, times-fits s, angle s .0)
+    simp (toZ-ofZ, index-fits (value c .before), value-fits (value c), fit s .3, fit s .4, argument-fits s, times-fits s, angle s .0)
     (s .pre .0, omega (arith, v, most-le s), angle s .1)
 
 returns : tie.Need-returns
 returns c =
     let d = c .before in
     let s = start d in
-    let e = simp (toZ-ofZ, place-fits (value d .before), value-fits (value d), fit s .3, fit s .4, argument-fits s, times-fits s, angle s .0) at (c .product .ensures) in
+    let e = simp (toZ-ofZ, index-fits (value d .before), value-fits (value d), fit s .3, fit s .4, argument-fits s, times-fits s, angle s .0) at (c .product .ensures) in
     simp (toZ-ofZ, ok-fits (c .product .result) (c .product .ok))
     (e ∙ ap (λ (z : ℤ). z *ℤ Sin (reduced (at s 3 +ℤ at s 4 *ℤ argument s))) (value-is (value d) .0) ∙ varying-value (arguments s) Sin (s .args .q) (s .args .t2))
 
 pub varying-product-spec : {M : Type 1} → statement M
 varying-product-spec =
     tie.close
-    (tie.spec array-copy-out-place array-copy-out-product array-copy-out-product-2 array-copy-out-place-2 cast-place value-requires array-copy-out-product-3
+    (tie.spec array-copy-out-index array-copy-out-product array-copy-out-product-2 array-copy-out-index-2 cast-index value-requires array-copy-out-product-3
     array-copy-out-product-4 mul-product shared-slice-copy-out-product mul-product-2 add-product product-requires returns)

@@ -1,4 +1,4 @@
--- `series::varying_sum` meets its contract: at each turn the sum so far and the rows that are left give the whole.
+-- In each round the sum so far and the rows that are left give the whole.
 use mathlib.Core.Path.{_≡_, refl, ap, _∙_}
 use mathlib.Core.List.{List}
 use Prim.Native.Nat.{suc, _+_, _-_, _≤_, _<_}
@@ -10,7 +10,7 @@ use mir.Facts.{toZ-ofZ}
 use mir.Syntax.{w64}
 use mir.Val.{SFits, ofZ, toZ}
 use Rattle.exact.proofs.Machine.{ok-fits}
-use Rattle.secular.specs.Sizes.{largest}
+use Rattle.secular.specs.Sizes.{mostMillionths}
 use Rattle.sine.specs.Sine.{Sin}
 use Rattle.series.specs.Sum.{total}
 use Rattle.series.specs.Rows.{varyingTerm, varyingTerms}
@@ -39,7 +39,7 @@ module _ (s : tie.Start Inv-loop μ-loop) where
   q-is : q ≡ s .args .q
   q-is = toZ-ofZ (s .fits .q)
 
-  q-le : natAbs q ≤ largest
+  q-le : natAbs q ≤ mostMillionths
   q-le = rw q-is (s .pre .moment)
 
 loop-holds : tie.Need-loop-holds Inv-loop μ-loop
@@ -57,7 +57,7 @@ varying-product-requires c κs =
     let s = l .before in
     (s .pre .sines, s .pre .angles, q-le s, s .pre .each (l .loop .i) (omega arith))
 
--- ---- a turn of the loop
+-- ---- a round
 module _ (c : tie.After-varying-product Inv-loop μ-loop) where
   abbrev loop : tie.At-loop Inv-loop μ-loop
   loop = c .before .before .before
@@ -71,16 +71,21 @@ module _ (c : tie.After-varying-product Inv-loop μ-loop) where
   inside : loop .loop .i < length (rows start)
   inside = omega arith
 
-  turn-fits : SFits w64 (toZ w64 (loop .loop .sum) +ℤ p)
-  turn-fits =
+  round-fits : SFits w64 (toZ w64 (loop .loop .sum) +ℤ p)
+  round-fits =
       row-fits (arguments start) (q start) varyingTerm (rows start) (loop .loop .i) (loop .loop .sum) p inside (loop .loop .inv .2) (c .varying-product .ensures)
       (q-le start) (start .pre .light)
+
+  next : RowsLeft (arguments start) (q start) varyingTerm (rows start) (suc (loop .loop .i)) (ofZ w64 (toZ w64 (loop .loop .sum) +ℤ p))
+  next =
+      row-next (arguments start) (q start) varyingTerm (rows start) (loop .loop .i) (loop .loop .sum) p inside (loop .loop .inv .2) (c .varying-product .ensures)
+      round-fits
 
   p-fits : SFits w64 p
   p-fits = ok-fits p (c .varying-product .ok)
 
 add-sum : tie.Need-add-sum Inv-loop μ-loop
-add-sum c = simp (toZ-ofZ, p-fits c) (turn-fits c)
+add-sum c = simp (toZ-ofZ, p-fits c) (round-fits c)
 
 add-i : tie.Need-add-i Inv-loop μ-loop
 add-i c = omega arith
@@ -89,11 +94,7 @@ loop-less : tie.Need-loop-less Inv-loop μ-loop
 loop-less c = omega arith
 
 loop-again : tie.Need-loop-again Inv-loop μ-loop
-loop-again c =
-    let l = loop c in
-    let s = start c in
-    let next : RowsLeft (arguments s) (q s) varyingTerm (rows s) (suc (l .loop .i)) (ofZ w64 (toZ w64 (l .loop .sum) +ℤ p c)) = row-next (arguments s) (q s) varyingTerm (rows s) (l .loop .i) (l .loop .sum) (p c) (inside c) (l .loop .inv .2) (c .varying-product .ensures) (turn-fits c) in
-    rw (add-one, toZ-ofZ (p-fits c)) (refl, omega arith, next)
+loop-again c = simp (toZ-ofZ, p-fits c, add-one) (refl, omega arith, next c)
 
 returns : tie.Need-returns Inv-loop μ-loop
 returns c =

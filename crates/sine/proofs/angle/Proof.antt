@@ -1,4 +1,3 @@
--- `sine::angle` meets its contract, branch by branch.
 use mathlib.Core.Path.{_≡_, sym, ap, _∙_}
 use Prim.Native.Nat.{ℕ, _+_, _*_, _^_, _≤_}
 use native.Mathlib.Omega.{arith}
@@ -6,15 +5,15 @@ use lib.IntN.{ℤ, natAbs}
 use mir.Syntax.{w64}
 use mir.Val.{SFits}
 use mir.Facts.{toZ-ofZ}
-use Rattle.exact.specs.Angle.{Q}
-use Rattle.sine.specs.Sine.{entries}
-use Rattle.sine.specs.Angle.{first}
-use Rattle.sine.proofs.Signs.{left-up, left-down, right-down, right-up, straight-up, nowhere}
 use borrow.Author.Needs.{needs}
+use Rattle.exact.specs.Reduction.{Q}
+use Rattle.sine.specs.Sine.{entries}
+use Rattle.sine.specs.VectorAngle.{quadrantAngle}
+use Rattle.sine.proofs.Signs.{left-up, left-down, right-down, right-up, straight-up, nowhere}
 use Rattle.sine.proofs.angle.Statement.{statement}
 use Rattle.sine.proofs.angle.Tie as tie
 
--- the components, that they fit, that p and q are their magnitudes, and that these are in reach of the search
+-- the components, that they fit, that p and q are their magnitudes, and that the search may be asked for them in either order
 module _ (c : tie.After-magnitude2) where
   abbrev x : ℤ
   x = c .before .before .args .x
@@ -40,8 +39,14 @@ module _ (c : tie.After-magnitude2) where
   q-le : c .magnitude2 .result ≤ 2 ^ 34
   q-le = rw q-is (c .before .before .pre .2)
 
-  lent : c .before .before .args .t .now ≡ entries
-  lent = c .before .before .pre .0
+  abbrev Asked : ℕ → ℕ → Type 0
+  Asked p q = (c .before .before .args .t .now ≡ entries) × (p ≤ 2 ^ 34) × (q ≤ 2 ^ 34)
+
+  asked-pq : Asked (c .before .magnitude .result) (c .magnitude2 .result)
+  asked-pq = (c .before .before .pre .0, p-le, q-le)
+
+  asked-qp : Asked (c .magnitude2 .result) (c .before .magnitude .result)
+  asked-qp = (c .before .before .pre .0, q-le, p-le)
 
 magnitude-requires : tie.Need-magnitude-requires
 magnitude-requires c κs = search needs
@@ -49,8 +54,8 @@ magnitude-requires c κs = search needs
 magnitude-requires-2 : tie.Need-magnitude-requires-2
 magnitude-requires-2 c κs = search needs
 
-search-requires : tie.Need-search-requires
-search-requires c κs = let m = c .before .before in let p = p-le m in let q = q-le m in (lent m, omega arith, omega arith)
+quadrant-angle-requires : tie.Need-quadrant-angle-requires
+quadrant-angle-requires c κs = asked-qp (c .before .before)
 
 add-result : tie.Need-add-result
 add-result c = search needs
@@ -58,8 +63,8 @@ add-result c = search needs
 mul-result : tie.Need-mul-result
 mul-result c = search needs
 
-search-requires-2 : tie.Need-search-requires-2
-search-requires-2 c κs = let m = c .before .before in let p = p-le m in let q = q-le m in (lent m, omega arith, omega arith)
+quadrant-angle-requires-2 : tie.Need-quadrant-angle-requires-2
+quadrant-angle-requires-2 c κs = asked-pq (c .before .before)
 
 add-result-2 : tie.Need-add-result-2
 add-result-2 c = search needs
@@ -67,17 +72,17 @@ add-result-2 c = search needs
 mul-result-2 : tie.Need-mul-result-2
 mul-result-2 c = search needs
 
-search-requires-3 : tie.Need-search-requires-3
-search-requires-3 c κs = let m = c .before .before in let p = p-le m in let q = q-le m in (lent m, omega arith, omega arith)
+quadrant-angle-requires-3 : tie.Need-quadrant-angle-requires-3
+quadrant-angle-requires-3 c κs = asked-qp (c .before .before)
 
 add-result-3 : tie.Need-add-result-3
 add-result-3 c = search needs
 
-search-requires-4 : tie.Need-search-requires-4
-search-requires-4 c κs = let m = c .before .before .before in let p = p-le m in let q = q-le m in (lent m, omega arith, omega arith)
+quadrant-angle-requires-4 : tie.Need-quadrant-angle-requires-4
+quadrant-angle-requires-4 c κs = asked-pq (c .before .before .before)
 
-search-requires-5 : tie.Need-search-requires-5
-search-requires-5 c κs = let m = c .before .before .before .before in let p = p-le m in let q = q-le m in (lent m, omega arith, omega arith)
+quadrant-angle-requires-5 : tie.Need-quadrant-angle-requires-5
+quadrant-angle-requires-5 c κs = asked-qp (c .before .before .before .before)
 
 add-result-4 : tie.Need-add-result-4
 add-result-4 c = search needs
@@ -87,28 +92,28 @@ returns c =
     let m = c .before .before .before in
     let left = simp (toZ-ofZ, x-fits m) at (c .before .before .if1 .taken) in
     let up = simp (toZ-ofZ, y-fits m) at (c .before .if2 .taken) in
-    (ap (λ (n : ℕ). Q + n) (c .search .ensures .0 ∙ (λ i. first (q-is m i) (p-is m i))) ∙ sym (left-up (x m) (y m) left up), omega arith)
+    (ap (λ (n : ℕ). Q + n) (c .quadrant-angle .ensures .0 ∙ (λ i. quadrantAngle (q-is m i) (p-is m i))) ∙ sym (left-up (x m) (y m) left up), omega arith)
 
 returns-2 : tie.Need-returns-2
 returns-2 c =
     let m = c .before .before .before in
     let left = simp (toZ-ofZ, x-fits m) at (c .before .before .if1 .taken) in
     let down = simp (toZ-ofZ, y-fits m) at (c .before .if2 .left) in
-    (ap (λ (n : ℕ). 2 * Q + n) (c .search2 .ensures .0 ∙ (λ i. first (p-is m i) (q-is m i))) ∙ sym (left-down (x m) (y m) left down), omega arith)
+    (ap (λ (n : ℕ). 2 * Q + n) (c .quadrant-angle2 .ensures .0 ∙ (λ i. quadrantAngle (p-is m i) (q-is m i))) ∙ sym (left-down (x m) (y m) left down), omega arith)
 
 returns-3 : tie.Need-returns-3
 returns-3 c =
     let m = c .before .before .before in
     let right = simp (toZ-ofZ, x-fits m) at (c .before .before .if1 .left) in
     let down = simp (toZ-ofZ, y-fits m) at (c .before .if3 .taken) in
-    (ap (λ (n : ℕ). 3 * Q + n) (c .search3 .ensures .0 ∙ (λ i. first (q-is m i) (p-is m i))) ∙ sym (right-down (x m) (y m) right down), omega arith)
+    (ap (λ (n : ℕ). 3 * Q + n) (c .quadrant-angle3 .ensures .0 ∙ (λ i. quadrantAngle (q-is m i) (p-is m i))) ∙ sym (right-down (x m) (y m) right down), omega arith)
 
 returns-4 : tie.Need-returns-4
 returns-4 c =
     let m = c .before .before .before .before in
     let up = simp (toZ-ofZ, y-fits m) at (c .before .before .if3 .left) in
     let right = simp (toZ-ofZ, x-fits m) at (c .before .if4 .taken) in
-    (c .search4 .ensures .0 ∙ (λ i. first (p-is m i) (q-is m i)) ∙ sym (right-up (x m) (y m) up right), omega arith)
+    (c .quadrant-angle4 .ensures .0 ∙ (λ i. quadrantAngle (p-is m i) (q-is m i)) ∙ sym (right-up (x m) (y m) up right), omega arith)
 
 returns-5 : tie.Need-returns-5
 returns-5 c =
@@ -116,7 +121,7 @@ returns-5 c =
     let right = simp (toZ-ofZ, x-fits m) at (c .before .before .before .before .if1 .left) in
     let left = simp (toZ-ofZ, x-fits m) at (c .before .before .if4 .left) in
     let up = simp (toZ-ofZ, y-fits m) at (c .before .if5 .taken) in
-    (ap (λ (n : ℕ). Q + n) (c .search5 .ensures .0 ∙ (λ i. first (q-is m i) (p-is m i))) ∙ sym (straight-up (x m) (y m) right left up), omega arith)
+    (ap (λ (n : ℕ). Q + n) (c .quadrant-angle5 .ensures .0 ∙ (λ i. quadrantAngle (q-is m i) (p-is m i))) ∙ sym (straight-up (x m) (y m) right left up), omega arith)
 
 returns-6 : tie.Need-returns-6
 returns-6 c =
@@ -130,23 +135,6 @@ returns-6 c =
 pub angle-spec : {M : Type 1} → statement M
 angle-spec =
     tie.close
-    (tie.spec
-    magnitude-requires
-    magnitude-requires-2
-    search-requires
-    add-result
-    mul-result
-    search-requires-2
-    add-result-2
-    mul-result-2
-    search-requires-3
-    add-result-3
-    search-requires-4
-    search-requires-5
-    add-result-4
-    returns
-    returns-2
-    returns-3
-    returns-4
-    returns-5
-    returns-6)
+    (tie.spec magnitude-requires magnitude-requires-2 quadrant-angle-requires add-result mul-result quadrant-angle-requires-2 add-result-2
+    mul-result-2 quadrant-angle-requires-3 add-result-3 quadrant-angle-requires-4 quadrant-angle-requires-5 add-result-4 returns returns-2 returns-3
+    returns-4 returns-5 returns-6)

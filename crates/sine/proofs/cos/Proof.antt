@@ -1,10 +1,9 @@
--- `sine::cos` meets its contract.
 use mathlib.Core.Path.{sym, _∙_}
 use native.Mathlib.Omega.{arith}
-use borrow.Author.Needs.{needs}
 use mir.Facts.{toZ-ofZ}
+use borrow.Author.Needs.{needs}
 use Rattle.exact.proofs.Machine.{ok-fits}
-use Rattle.sine.proofs.Turned.{cos-low, cos-high}
+use Rattle.sine.proofs.Extension.{cos-low, cos-high}
 use Rattle.sine.proofs.cos.Statement.{statement}
 use Rattle.sine.proofs.cos.Tie as tie
 

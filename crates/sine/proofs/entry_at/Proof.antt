@@ -1,11 +1,11 @@
--- `sine::entry_at` meets its contract: the table lent is the list of entries.
+-- The table lent is the list of entries.
 use mathlib.Core.Path.{_≡_, ap, _∙_}
 use mathlib.Core.List.{List}
 use Prim.Native.Nat.{ℕ}
-use borrow.Author.Needs.{needs}
 use lib.ListN.{getD}
-use Rattle.sine.specs.Sine.{entry}
-use Rattle.sine.proofs.Rule.{entry-at, entry-le}
+use borrow.Author.Needs.{needs}
+use Rattle.sine.specs.Sine.{entryAt}
+use Rattle.sine.proofs.TableRule.{entry-at, entry-le}
 use Rattle.sine.proofs.entry_at.Statement.{statement}
 use Rattle.sine.proofs.entry_at.Tie as tie
 
@@ -22,7 +22,7 @@ returns : tie.Need-returns
 returns c =
     let start = c .before .before in
     let n = start .args .n in
-    let e : c .wide .result ≡ entry n = c .wide .ensures ∙ ap (λ (l : List ℕ). getD l n 0) (start .pre .0) ∙ entry-at n (start .pre .1) in
+    let e : c .wide .result ≡ entryAt n = c .wide .ensures ∙ ap (λ (l : List ℕ). getD l n 0) (start .pre .0) ∙ entry-at n (start .pre .1) in
     (e, rw e (entry-le n (start .pre .1)))
 
 pub entry-at-spec : {M : Type 1} → statement M

@@ -1,21 +1,15 @@
--- `sine::sin` meets its contract.
 use mathlib.Core.Path.{ap, _∙_}
 use Prim.Native.Nat.{ℕ, _^_, _<_}
 use native.Mathlib.Omega.{arith}
+use lib.IntN.{pos, negℤ}
+use mir.Facts.{toZ-pos, toZ-ofZ}
 use borrow.Author.Needs.{needs}
 use borrow.Author.Tests.{le-leb, lt-leb}
-use lib.IntN.{ℤ, pos, negℤ, natAbs, _-ℤ_, +ℤ-idl}
-use mir.Syntax.{w64}
-use mir.Val.{SFits}
-use mir.Facts.{toZ-pos, toZ-ofZ}
-use Rattle.exact.proofs.Differences.{split, zs}
+use Rattle.exact.proofs.Machine.{negated}
 use Rattle.sine.specs.Sine.{Sin}
 use Rattle.sine.proofs.SineBound.{is-sine}
 use Rattle.sine.proofs.sin.Statement.{statement}
 use Rattle.sine.proofs.sin.Tie as tie
-
-minus-fits : (z : ℤ) → natAbs z < 2 ^ 63 → SFits w64 (pos 0 -ℤ z)
-minus-fits z = rw (split z) (simp zs (omega arith))
 
 mul-if1 : tie.Need-mul-if1
 mul-if1 c = search needs
@@ -41,7 +35,7 @@ cast-result-2 c = search needs
 sub-result : tie.Need-sub-result
 sub-result c =
     let h : c .sin-half2 .result < 2 ^ 63 = omega arith in
-    simp (toZ-pos, h) (minus-fits (pos (c .sin-half2 .result)) h)
+    simp (toZ-pos, h) (negated (pos (c .sin-half2 .result)) (omega arith) .0)
 
 returns : tie.Need-returns
 unfolding Sin
@@ -54,8 +48,9 @@ unfolding Sin
 returns-2 c =
     let n = c .sin-half2 .result in
     let h : n < 2 ^ 63 = omega arith in
+    let m = negated (pos n) (omega arith) in
     is-sine (c .before .before .args .a) _ (omega arith)
-    (simp (toZ-pos, h, toZ-ofZ, minus-fits (pos n) h, lt-leb _ _ (c .before .if1 .left)) (+ℤ-idl (negℤ (pos n)) ∙ ap (λ (k : ℕ). negℤ (pos k)) (c .sin-half2 .ensures .0)))
+    (simp (toZ-pos, h, toZ-ofZ, m .0, lt-leb _ _ (c .before .if1 .left)) (m .1 ∙ ap (λ (k : ℕ). negℤ (pos k)) (c .sin-half2 .ensures .0)))
 
 pub sin-spec : {M : Type 1} → statement M
 sin-spec =

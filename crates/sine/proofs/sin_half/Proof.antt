@@ -1,4 +1,3 @@
--- `sine::sin_half` meets its contract.
 use borrow.Author.Needs.{needs}
 use borrow.Author.Tests.{le-leb, lt-leb}
 use Rattle.sine.proofs.sin_half.Statement.{statement}

@@ -1,18 +1,18 @@
--- `stream::feed` meets its contract. The invariant: what is written and what is yet to be read make what the whole chunk makes. Assumes nothing.
+-- The invariant: what is written and what is yet to be read make what the whole chunk makes.
 use mathlib.Core.Path.{_≡_, refl, ap, _∙_}
+use mathlib.Core.List.{List}
+use Prim.Native.Nat.{ℕ, suc, _+_, _-_, _*_, _≤_}
 use native.Mathlib.Omega.{arith}
-use borrow.Author.Needs.{needs}
-use Prim.Native.Nat.{suc, _+_, _-_, _*_, _≤_}
 use lib.ListN.{length, take, drop, length-take, length-drop, drop-of-length-le}
 use lib.Seq.{drop-drop}
-use Rattle.digits.proofs.Lists.{tail-part}
-use Rattle.lines.specs.Numbers.{indexOf}
-use Rattle.lines.proofs.Words.{index-bound}
-use Rattle.stream.specs.Feeding.{behind, keptLength, held, room, progressFrom}
-use Rattle.stream.proofs.Pieces.{one-line, the-rest, no-rest}
 use borrow.Author.Needs.{needs}
+use Rattle.digits.proofs.Lists.{tail-part}
+use Rattle.stream.specs.Sizes.{room}
+use Rattle.stream.specs.Feeding.{behind, keptLength, held, progressFrom}
+use Rattle.stream.proofs.Pieces.{one-line, the-rest, no-rest}
 use Rattle.stream.proofs.feed.Statement.{statement}
 use Rattle.stream.proofs.feed.Tie as tie
+use Rattle.bytes.specs.Bytes.{slice, indexOf}
 
 abbrev Inv-loop : tie.InvT-loop
 Inv-loop t protocol chunk out₀ s₀ end₀ from₀ out s end from =
@@ -26,20 +26,24 @@ abbrev μ-loop : tie.MeasureT-loop
 full : (c : tie.Start Inv-loop μ-loop) → length (c .args .state .kept .bytes) ≡ keptLength
 full c = search needs
 
--- where the line at the front ends
-found : (c : tie.After-find Inv-loop μ-loop) → c .find .result ≡ indexOf 10 (drop (c .before .before .before .loop .from) (c .before .before .before .before .before .before .args .chunk .now))
-found c =
-    let a = c .before .before .before in
-    c .find .ensures ∙ ap (indexOf 10) (tail-part (a .loop .from) (a .before .before .before .args .chunk .now))
+-- what is left of the chunk, as it is lent
+left : (a : ℕ) (l : List ℕ) → slice 0 (length l - a) (take (length l - a) (drop a l)) ≡ drop a l
+unfolding slice
+left a l = ap (take (length l - a)) (tail-part a l) ∙ tail-part a l
 
-bound : (c : tie.After-find Inv-loop μ-loop) → c .before .before .before .loop .from + c .find .result ≤ length (c .before .before .before .before .before .before .args .chunk .now)
-bound c =
-    let a = c .before .before .before in
-    let l = a .before .before .before .args .chunk .now in
-    let b = index-bound 10 (drop (a .loop .from) l) in
-    let d = length-drop (a .loop .from) l in
-    let f = found c in
-    omega arith
+-- where the line at the front ends
+module _ (c : tie.After-find Inv-loop μ-loop) where
+  abbrev at-loop : tie.At-loop Inv-loop μ-loop
+  at-loop = c .before .before .before
+
+  abbrev whole : List ℕ
+  whole = at-loop .before .before .before .args .chunk .now
+
+  found : c .find .result ≡ indexOf 10 (drop (at-loop .loop .from) whole)
+  found = let l = ap (indexOf 10) (left (at-loop .loop .from) whole) in omega (arith, c .find .ensures .0)
+
+  bound : at-loop .loop .from + c .find .result ≤ length whole
+  bound = let b = c .find .ensures .1 in omega arith
 
 loop-holds : tie.Need-loop-holds Inv-loop μ-loop
 loop-holds c =
@@ -47,6 +51,9 @@ loop-holds c =
     let f = full (c .before .before) in
     let l = length-take (k .len) (k .bytes) in
     (omega arith, refl, omega arith, omega arith, refl)
+
+sub-left : tie.Need-sub-left Inv-loop μ-loop
+sub-left c = omega arith
 
 sub-find : tie.Need-sub-find Inv-loop μ-loop
 sub-find c = omega arith
@@ -152,27 +159,6 @@ returns-2 c =
 pub feed-spec : {M : Type 1} → statement M
 feed-spec =
     tie.close
-    (tie.spec
-    Inv-loop
-    μ-loop
-    loop-holds
-    sub-find
-    part-find-start
-    part-find-end
-    find-requires
-    add-stop
-    sub-keep-rest
-    part-keep-rest-start
-    part-keep-rest-end
-    keep-rest-requires
-    same-length
-    returns
-    sub-end-line
-    part-end-line-start
-    part-end-line-end
-    end-line-requires
-    add-from
-    loop-less
-    loop-again
-    same-length-2
-    returns-2)
+    (tie.spec Inv-loop μ-loop loop-holds sub-left sub-find part-find-start part-find-end find-requires add-stop sub-keep-rest part-keep-rest-start
+    part-keep-rest-end keep-rest-requires same-length returns sub-end-line part-end-line-start part-end-line-end end-line-requires add-from loop-less
+    loop-again same-length-2 returns-2)

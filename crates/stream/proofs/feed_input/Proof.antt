@@ -1,30 +1,31 @@
--- `stream::feed_input` meets its contract. The invariant: the state is one that chunks lead to. The turns that are left fall. Assumes nothing.
+-- The invariant: the state is one that chunks lead to. The rounds that are left fall.
 use mathlib.Core.Path.{_≡_, refl, sym, _∙_}
-use native.Mathlib.Omega.{arith}
-use borrow.Author.Needs.{needs}
 use Prim.Native.Nat.{_≤_}
+use native.Mathlib.Omega.{arith}
 use lib.ListN.{length}
 use lib.Seq.{length-take-le}
-use Rattle.stream.specs.Feeding.{chunkLength, Reached}
-use Rattle.stream.proofs.Turns.{first-turn, one-turn}
+use borrow.Author.Needs.{needs}
+use Rattle.stream.specs.Sizes.{chunkLength}
+use Rattle.stream.specs.Feeding.{Reached}
+use Rattle.stream.proofs.Rounds.{first-round, one-round}
 use Rattle.stream.proofs.feed_input.Statement.{statement}
 use Rattle.stream.proofs.feed_input.Tie as tie
 
 abbrev Inv-loop : tie.InvT-loop
-Inv-loop t protocol out₀ input₀ state₀ turns₀ out input state turns = (length out ≡ length out₀) × (length input ≡ chunkLength) × Reached protocol state
+Inv-loop t protocol out₀ input₀ state₀ rounds₀ out input state rounds = (length out ≡ length out₀) × (length input ≡ chunkLength) × Reached protocol state
 
 abbrev μ-loop : tie.MeasureT-loop
-μ-loop t protocol out₀ input₀ state₀ turns₀ out input state turns = turns
+μ-loop t protocol out₀ input₀ state₀ rounds₀ out input state rounds = rounds
 
--- the buffer that is lent and the state, after a turn
-turned : (c : tie.After-feed-some Inv-loop μ-loop)
+-- the buffer that is lent and the state, after a round
+after-round : (c : tie.After-feed-some Inv-loop μ-loop)
     → (length (c .feed-some .last .1 .1 .1 .1 .0) ≡ length (c .before .before .before .before .before .before .before .args .out .now))
     × (length (c .feed-some .last .1 .1 .1 .0) ≡ chunkLength)
     × Reached (c .before .before .before .before .before .before .before .args .protocol) (c .feed-some .result .fed .state)
-turned c =
+after-round c =
     let f = c .feed-some in
     let i = c .before .before .before .before .loop .inv in
-    (f .kept .1 .1 .1 .1 .0 ∙ i .0, f .kept .1 .1 .1 .0 ∙ i .1, one-turn _ _ _ _ _ (i .2) (f .ensures .0))
+    (f .kept .1 .1 .1 .1 .0 ∙ i .0, f .kept .1 .1 .1 .0 ∙ i .1, one-round _ _ _ _ _ (i .2) (f .ensures .0))
 
 -- where the output ends
 bound : (c : tie.After-feed-some Inv-loop μ-loop) → c .feed-some .result .fed .end ≤ length (c .feed-some .last .1 .1 .1 .1 .0)
@@ -34,7 +35,7 @@ start-requires : tie.Need-start-requires Inv-loop μ-loop
 start-requires c κs = search needs
 
 loop-holds : tie.Need-loop-holds Inv-loop μ-loop
-loop-holds c = (refl, refl, first-turn _ _ (c .start .ensures .0) (c .start .ensures .1))
+loop-holds c = (refl, refl, first-round _ _ (c .start .ensures .0) (c .start .ensures .1))
 
 slice-aggregate-feed-some : tie.Need-slice-aggregate-feed-some Inv-loop μ-loop
 slice-aggregate-feed-some c = search needs
@@ -56,14 +57,14 @@ slice-aggregate-write-all c =
 write-all-requires : tie.Need-write-all-requires Inv-loop μ-loop
 write-all-requires c κs = search needs
 
-sub-turns : tie.Need-sub-turns Inv-loop μ-loop
-sub-turns c = search needs
+sub-rounds : tie.Need-sub-rounds Inv-loop μ-loop
+sub-rounds c = search needs
 
 loop-less : tie.Need-loop-less Inv-loop μ-loop
 loop-less c = omega arith
 
 loop-again : tie.Need-loop-again Inv-loop μ-loop
-loop-again c = turned (c .before .before .before .before .before .before .before .before .before .before)
+loop-again c = after-round (c .before .before .before .before .before .before .before .before .before .before)
 
 same-length : tie.Need-same-length Inv-loop μ-loop
 same-length c = c .before .loop .inv .0
@@ -72,28 +73,13 @@ returns : tie.Need-returns Inv-loop μ-loop
 returns c = c .before .loop .inv .2
 
 same-length-2 : tie.Need-same-length-2 Inv-loop μ-loop
-same-length-2 c = turned (c .before .before .before .before .before .before .before .before .before) .0
+same-length-2 c = after-round (c .before .before .before .before .before .before .before .before .before) .0
 
 returns-2 : tie.Need-returns-2 Inv-loop μ-loop
-returns-2 c = turned (c .before .before .before .before .before .before .before .before .before) .2
+returns-2 c = after-round (c .before .before .before .before .before .before .before .before .before) .2
 
 pub feed-input-spec : {M : Type 1} → statement M
 feed-input-spec =
     tie.close
-    (tie.spec
-    Inv-loop
-    μ-loop
-    start-requires
-    loop-holds
-    slice-aggregate-feed-some
-    feed-some-requires
-    slice-reshare-prefix-write-all
-    slice-aggregate-write-all
-    write-all-requires
-    sub-turns
-    loop-less
-    loop-again
-    same-length
-    returns
-    same-length-2
-    returns-2)
+    (tie.spec Inv-loop μ-loop start-requires loop-holds slice-aggregate-feed-some feed-some-requires slice-reshare-prefix-write-all
+    slice-aggregate-write-all write-all-requires sub-rounds loop-less loop-again same-length returns same-length-2 returns-2)

@@ -1,4 +1,3 @@
--- `stream::feed_some` meets its contract. Assumes nothing.
 use native.Mathlib.Omega.{arith}
 use borrow.Author.Needs.{needs}
 use Rattle.stream.proofs.feed_some.Statement.{statement}
@@ -34,13 +33,4 @@ returns c =
 
 pub feed-some-spec : {M : Type 1} → statement M
 feed-some-spec =
-    tie.close
-    (tie.spec
-    read-requires
-    count-requires
-    slice-reshare-prefix-feed
-    slice-aggregate-feed
-    feed-requires
-    same-length
-    same-length-2
-    returns)
+    tie.close (tie.spec read-requires count-requires slice-reshare-prefix-feed slice-aggregate-feed feed-requires same-length same-length-2 returns)

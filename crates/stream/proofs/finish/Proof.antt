@@ -1,13 +1,12 @@
--- `stream::finish` meets its contract. Assumes nothing.
 use mathlib.Core.Path.{_≡_, ap, _∙_}
-use native.Mathlib.Omega.{arith}
 use mathlib.Core.List.{append-nil}
+use native.Mathlib.Omega.{arith}
 use lib.ListN.{length}
 use lib.Seq.{length-take-le}
+use borrow.Author.Needs.{needs}
 use Rattle.replies.specs.Answers.{reply}
 use Rattle.stream.specs.Feeding.{keptLength, held, lastReply}
 use Rattle.stream.proofs.Pieces.{last-line}
-use borrow.Author.Needs.{needs}
 use Rattle.stream.proofs.finish.Statement.{statement}
 use Rattle.stream.proofs.finish.Tie as tie
 
@@ -15,13 +14,13 @@ use Rattle.stream.proofs.finish.Tie as tie
 full : (c : tie.Start) → length (c .args .state .kept .bytes) ≡ keptLength
 full c = search needs
 
-kept-len-requires : tie.Need-kept-len-requires
-kept-len-requires c κs = search needs
+held-length-requires : tie.Need-held-length-requires
+held-length-requires c κs = search needs
 
 returns : tie.Need-returns
 returns c =
     let a = c .before .before .before .before .args in
-    (ap (lastReply (a .protocol) (a .state .card)) (rw (c .if1 .taken) at (c .before .kept-len .ensures .1)), omega arith)
+    (ap (lastReply (a .protocol) (a .state .card)) (rw (c .if1 .taken) at (c .before .held-length .ensures .1)), omega arith)
 
 slice-aggregate-end-line : tie.Need-slice-aggregate-end-line
 slice-aggregate-end-line c = search needs
@@ -36,7 +35,7 @@ returns-2 : tie.Need-returns-2
 returns-2 c =
     let r = c .before .before .end-line in
     let e = c .before .before .before .before .before in
-    let k = e .before .kept-len in
+    let k = e .before .held-length in
     let s = e .before .before .before .before in
     let a = s .args in
     let l = held (a .state .kept) in
@@ -50,11 +49,4 @@ returns-2 c =
 
 pub finish-spec : {M : Type 1} → statement M
 finish-spec =
-    tie.close
-    (tie.spec
-    kept-len-requires
-    returns
-    slice-aggregate-end-line
-    end-line-requires
-    same-length
-    returns-2)
+    tie.close (tie.spec held-length-requires returns slice-aggregate-end-line end-line-requires same-length returns-2)

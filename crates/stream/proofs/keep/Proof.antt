@@ -1,10 +1,10 @@
--- `stream::keep` meets its contract. The invariant: the bytes kept so far, with the piece's others, make what all make. Assumes nothing.
+-- The invariant: the bytes kept so far, with the piece's others, make what all make.
 use mathlib.Core.Path.{_≡_, refl, ap, _∙_}
-use native.Mathlib.Omega.{arith}
-use borrow.Author.Needs.{needs}
-use Prim.Native.Nat.{_+_, _-_, _≤_}
 use mathlib.Core.List.{_++_}
+use Prim.Native.Nat.{_+_, _-_, _≤_}
+use native.Mathlib.Omega.{arith}
 use lib.ListN.{length, take, drop, length-set}
+use borrow.Author.Needs.{needs}
 use Rattle.stream.specs.Feeding.{keptLength, held}
 use Rattle.stream.proofs.Keeping.{keep-full, keep-byte, keep-end}
 use Rattle.stream.proofs.keep.Statement.{statement}
@@ -24,14 +24,14 @@ full c = search needs
 
 -- what all make
 whole : (c : tie.At-loop Inv-loop μ-loop) → take keptLength (take (c .loop .len) (c .loop .bytes) ++ drop (c .loop .i) (c .before .before .before .before .args .piece .now)) ≡ take keptLength (held (c .before .before .before .before .args .kept) ++ c .before .before .before .before .args .piece .now)
-whole c = c .loop .inv .3 ∙ ap (λ l. take keptLength (l ++ c .before .before .before .before .args .piece .now)) (c .before .kept-len .ensures .1)
+whole c = c .loop .inv .3 ∙ ap (λ l. take keptLength (l ++ c .before .before .before .before .args .piece .now)) (c .before .held-length .ensures .1)
 
-kept-len-requires : tie.Need-kept-len-requires Inv-loop μ-loop
-kept-len-requires c κs = search needs
+held-length-requires : tie.Need-held-length-requires Inv-loop μ-loop
+held-length-requires c κs = search needs
 
 loop-holds : tie.Need-loop-holds Inv-loop μ-loop
 loop-holds c =
-    let k = c .kept-len .ensures in
+    let k = c .held-length .ensures in
     (omega arith, k .0, full (c .before .before .before), refl)
 
 returns : tie.Need-returns Inv-loop μ-loop
@@ -68,16 +68,5 @@ returns-2 c =
 pub keep-spec : {M : Type 1} → statement M
 keep-spec =
     tie.close
-    (tie.spec
-    Inv-loop
-    μ-loop
-    kept-len-requires
-    loop-holds
-    returns
-    shared-slice-read-bytes
-    array-write-bytes
-    add-len
-    add-i
-    loop-less
-    loop-again
+    (tie.spec Inv-loop μ-loop held-length-requires loop-holds returns shared-slice-read-bytes array-write-bytes add-len add-i loop-less loop-again
     returns-2)

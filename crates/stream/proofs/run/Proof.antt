@@ -1,7 +1,6 @@
--- `stream::run` meets its contract. Assumes nothing.
 use mathlib.Core.Path.{sym}
-use native.Mathlib.Omega.{arith}
 use Prim.Native.Nat.{_≤_}
+use native.Mathlib.Omega.{arith}
 use lib.ListN.{length}
 use lib.Seq.{length-take-le}
 use borrow.Author.Needs.{needs}
@@ -38,11 +37,5 @@ returns c = search needs
 pub run-spec : {M : Type 1} → statement M
 run-spec =
     tie.close
-    (tie.spec
-    table-requires
-    slice-aggregate-run-with
-    run-with-requires
-    array-share-prefix-output
-    slice-aggregate-write-all
-    write-all-requires
+    (tie.spec table-requires slice-aggregate-run-with run-with-requires array-share-prefix-output slice-aggregate-write-all write-all-requires
     returns)

@@ -1,7 +1,6 @@
--- `stream::run_with` meets its contract. Assumes nothing.
 use native.Mathlib.Omega.{arith}
 use borrow.Author.Needs.{needs}
-use Rattle.stream.proofs.Turns.{last-turn}
+use Rattle.stream.proofs.Rounds.{last-round}
 use Rattle.stream.proofs.run_with.Statement.{statement}
 use Rattle.stream.proofs.run_with.Tie as tie
 
@@ -18,7 +17,7 @@ returns : tie.Need-returns
 returns c =
     let f = c .before .before in
     let i = f .before .before .before .before .feed-input in
-    (last-turn _ _ _ (i .ensures) (f .finish .ensures .0), omega (arith, f .finish .ensures .1, i .kept .1 .1 .0))
+    (last-round _ _ _ (i .ensures) (f .finish .ensures .0), omega (arith, f .finish .ensures .1, i .kept .1 .1 .0))
 
 pub run-with-spec : {M : Type 1} → statement M
 run-with-spec = tie.close (tie.spec feed-input-requires finish-requires same-length returns)

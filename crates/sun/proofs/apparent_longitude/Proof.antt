@@ -1,31 +1,31 @@
--- `sun::apparent_longitude` meets its contract: the rows stand for the printed terms in whole units, which antt computes, and both sums together are rounded once.
+-- The rows stand for the printed terms in whole units, which antt computes, and both sums together are rounded once.
 use mathlib.Core.Path.{_≡_, refl, ap, ap₂, subst⁻¹, _∙_}
 use mathlib.Core.List.{List}
 use Prim.Native.Nat.{ℕ, _*_, _≤_, _<_, _^_}
 use native.Mathlib.Nat.{le-trans}
 use native.Mathlib.Omega.{arith}
-use borrow.Author.Needs.{needs}
 use lib.Dec.{lit≤}
 use lib.IntN.{ℤ, natAbs, _+ℤ_, _-ℤ_}
 use mir.Facts.{toZ-ofZ}
 use mir.Syntax.{w64}
 use mir.Val.{SFits}
-use Rattle.exact.specs.Angle.{turn, reduced, shortWay}
-use Rattle.exact.specs.Division.{floorDiv, nearest}
+use borrow.Author.Needs.{needs}
+use Rattle.exact.specs.Reduction.{turn, reduced, shortWay}
+use Rattle.exact.specs.Division.{floorDiv, nearestDiv}
 use Rattle.exact.proofs.Differences.{split, zs}
 use Rattle.exact.proofs.Machine.{ok-fits, fits-lt}
 use Rattle.secular.specs.Sizes.{most}
 use Rattle.sine.specs.Sine.{R, Sin}
 use Rattle.epoch.proofs.Sizes.{q-size, q-fits}
-use Rattle.arguments.specs.Table.{L, count}
+use Rattle.arguments.specs.PrintedArguments.{L, argumentCount}
 use Rattle.series.specs.Sum.{total, tableSum, weights}
 use Rattle.series.specs.Rows.{kept, steadyTerm, steadyTerms}
 use Rattle.series.specs.Sizes.{counts}
 use Rattle.series.proofs.Sizes.{steady-ready}
 use Rattle.series.proofs.Sums.{total-append}
 use Rattle.sun.specs.Series.{centre, periodic, firstSum}
-use Rattle.sun.specs.Longitude.{meanLongitude, longitudeBy, apparentLongitude, polynomialLongitude, promise}
-use Rattle.sun.proofs.LongitudeBound.{longitude-within-promise}
+use Rattle.sun.specs.Longitude.{meanLongitude, longitudeBy, apparentLongitude, polynomialLongitude, longitudeTolerance}
+use Rattle.sun.proofs.LongitudeBound.{longitude-within-tolerance}
 use Rattle.sun.proofs.apparent_longitude.Statement.{statement}
 use Rattle.sun.proofs.apparent_longitude.Tie as tie
 
@@ -53,14 +53,14 @@ slice-aggregate-steady-sum-2 c = search needs
 
 steady-sum-requires : tie.Need-steady-sum-requires
 unfolding weights most kept steadyTerm steadyTerms counts
-steady-sum-requires c κs = let p = c .before .before .before .before .pre .0 in steady-ready count (p .0) (p .1 .reduced) (p .1 .all) tt
+steady-sum-requires c κs = let p = c .before .before .before .before .pre .0 in steady-ready argumentCount (p .0) (p .1 .reduced) (p .1 .all) tt
 
 module _ (c : tie.After-steady-sum) where
-  abbrev first : tie.After-centre-sum
-  first = c .before .before .before
+  abbrev after-centre : tie.After-centre-sum
+  after-centre = c .before .before .before
 
   abbrev start : tie.Start
-  start = first .before .before
+  start = after-centre .before .before
 
   abbrev arguments : List ℤ
   arguments = start .args .arguments .now
@@ -69,26 +69,26 @@ module _ (c : tie.After-steady-sum) where
   q = start .args .e .q
 
   abbrev a : ℤ
-  a = first .centre-sum .result
+  a = after-centre .centre-sum .result
 
   abbrev b : ℤ
   b = c .steady-sum .result
 
   a-is : a ≡ total Sin arguments q centre
-  a-is = simp (toZ-ofZ, q-fits (start .pre .0 .2)) at (first .centre-sum .ensures .0)
+  a-is = simp (toZ-ofZ, q-fits (start .pre .0 .2)) at (after-centre .centre-sum .ensures .0)
 
   b-is : (b ≡ total Sin arguments q periodic) × (natAbs b ≤ R * 2 ^ 27)
-  unfolding weights most kept steadyTerm steadyTerms nearest floorDiv
+  unfolding weights most kept steadyTerm steadyTerms nearestDiv floorDiv
   b-is = (c .steady-sum .ensures .0 q, le-trans (c .steady-sum .ensures .1) (lit≤ tt))
 
   both-is : a +ℤ b ≡ total Sin arguments q firstSum
   both-is = ap₂ _+ℤ_ a-is (b-is .0) ∙ total-append Sin arguments q centre periodic
 
   both : SFits w64 (a +ℤ b) × (natAbs (a +ℤ b) ≤ R * 2 ^ 28)
-  both = two-fit a b (first .centre-sum .ensures .1) (b-is .1)
+  both = two-fit a b (after-centre .centre-sum .ensures .1) (b-is .1)
 
   fit : SFits w64 a × SFits w64 b
-  fit = (ok-fits a (first .centre-sum .ok), ok-fits b (c .steady-sum .ok))
+  fit = (ok-fits a (after-centre .centre-sum .ok), ok-fits b (c .steady-sum .ok))
 
 add-rounded : tie.Need-add-rounded
 add-rounded c = simp (toZ-ofZ, fit c .0, fit c .1) (both c .0)
@@ -107,36 +107,36 @@ module _ (c : tie.After-reduced-bounded-arg) where
   abbrev s : tie.Start
   s = start found
 
-  abbrev sum : ℤ
-  sum = c .before .rounded .result
+  abbrev first-sum : ℤ
+  first-sum = c .before .rounded .result
 
-  sum-is : (sum ≡ tableSum (arguments found) (q found) firstSum) × (natAbs sum ≤ 2 ^ 28)
+  first-sum-is : (first-sum ≡ tableSum (arguments found) (q found) firstSum) × (natAbs first-sum ≤ 2 ^ 28)
   unfolding tableSum
-  sum-is =
+  first-sum-is =
       let e = simp (toZ-ofZ, fit found .0, fit found .1, both found .0) at (c .before .rounded .ensures) in
-      (e .0 ∙ ap (λ (z : ℤ). nearest z R) (both-is found), e .1 (2 ^ 28) (both found .1))
+      (e .0 ∙ ap (λ (z : ℤ). nearestDiv z R) (both-is found), e .1 (2 ^ 28) (both found .1))
 
   abbrev mean : ℤ
   mean = meanLongitude (arguments found)
 
-  known : SFits w64 mean × SFits w64 sum
-  known = (fits-lt turn mean (s .pre .0 .1 .reduced L) refl, ok-fits sum (c .before .rounded .ok))
+  known : SFits w64 mean × SFits w64 first-sum
+  known = (fits-lt turn mean (s .pre .0 .1 .reduced L) refl, ok-fits first-sum (c .before .rounded .ok))
 
-  all : Sums mean sum (s .args .nutation) (s .args .aberration)
-  all = sums mean sum (s .args .nutation) (s .args .aberration) (s .pre .0 .1 .reduced L) (sum-is .1) (s .pre .1 .1) (s .pre .2)
+  all : Sums mean first-sum (s .args .dpsi) (s .args .aberration)
+  all = sums mean first-sum (s .args .dpsi) (s .args .aberration) (s .pre .0 .1 .reduced L) (first-sum-is .1) (s .pre .1 .1) (s .pre .2)
 
 add-reduced-bounded : tie.Need-add-reduced-bounded
 add-reduced-bounded c = simp (toZ-ofZ, known c .0, known c .1) (all c .0)
 
 add-reduced-bounded-2 : tie.Need-add-reduced-bounded-2
-add-reduced-bounded-2 c = simp (toZ-ofZ, known c .0, known c .1, all c .0, s c .fits .nutation) (all c .1)
+add-reduced-bounded-2 c = simp (toZ-ofZ, known c .0, known c .1, all c .0, s c .fits .dpsi) (all c .1)
 
 sub-reduced-bounded : tie.Need-sub-reduced-bounded
-sub-reduced-bounded c = simp (toZ-ofZ, known c .0, known c .1, all c .0, all c .1, s c .fits .nutation, s c .fits .aberration) (all c .2)
+sub-reduced-bounded c = simp (toZ-ofZ, known c .0, known c .1, all c .0, all c .1, s c .fits .dpsi, s c .fits .aberration) (all c .2)
 
 reduced-bounded-requires : tie.Need-reduced-bounded-requires
 reduced-bounded-requires c κs =
-    simp (toZ-ofZ, known c .0, known c .1, all c .0, all c .1, all c .2, s c .fits .nutation, s c .fits .aberration) (all c .3)
+    simp (toZ-ofZ, known c .0, known c .1, all c .0, all c .1, all c .2, s c .fits .dpsi, s c .fits .aberration) (all c .3)
 
 returns : tie.Need-returns
 unfolding apparentLongitude longitudeBy
@@ -144,12 +144,12 @@ returns c =
     let d = c .before in
     let b = s d in
     let k = b .args .aberration in
-    let e = simp (toZ-ofZ, known d .0, known d .1, all d .0, all d .1, all d .2, b .fits .nutation, b .fits .aberration) at (c .reduced-bounded .ensures .0) in
-    let is = e ∙ ap₂ (λ (f n : ℤ). reduced (mean d +ℤ f +ℤ n -ℤ k)) (sum-is d .0) (b .pre .1 .0) in
+    let e = simp (toZ-ofZ, known d .0, known d .1, all d .0, all d .1, all d .2, b .fits .dpsi, b .fits .aberration) at (c .reduced-bounded .ensures .0) in
+    let is = e ∙ ap₂ (λ (f n : ℤ). reduced (mean d +ℤ f +ℤ n -ℤ k)) (first-sum-is d .0) (b .pre .1 .0) in
     record {
       value = is;
       range = c .reduced-bounded .ensures .1;
-      near = subst⁻¹ (λ (r : ℕ). shortWay r (polynomialLongitude k (arguments (found d)) (q (found d))) ≤ promise) is (longitude-within-promise k (arguments (found d)) (q (found d)) (q-size (b .pre .0 .2)));
+      near = subst⁻¹ (λ (r : ℕ). shortWay r (polynomialLongitude k (arguments (found d)) (q (found d))) ≤ longitudeTolerance) is (longitude-within-tolerance k (arguments (found d)) (q (found d)) (q-size (b .pre .0 .2)));
     }
 
 pub apparent-longitude-spec : {M : Type 1} → statement M

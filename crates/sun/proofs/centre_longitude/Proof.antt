@@ -1,16 +1,16 @@
--- `sun::centre_longitude` meets its contract: the sum is small enough to be reduced.
+-- The sum is small enough to be reduced.
 use mathlib.Core.Path.{refl, ap, _∙_}
 use Prim.Native.Nat.{_≤_, _<_, _^_}
 use native.Mathlib.Omega.{arith}
-use borrow.Author.Needs.{needs}
 use lib.IntN.{ℤ, natAbs, _+ℤ_}
 use mir.Facts.{toZ-ofZ}
 use mir.Syntax.{w64}
 use mir.Val.{SFits}
-use Rattle.exact.specs.Angle.{turn, reduced}
+use borrow.Author.Needs.{needs}
+use Rattle.exact.specs.Reduction.{turn, reduced}
 use Rattle.exact.proofs.Differences.{split, zs}
 use Rattle.exact.proofs.Machine.{ok-fits, fits-lt}
-use Rattle.arguments.specs.Table.{L}
+use Rattle.arguments.specs.PrintedArguments.{L}
 use Rattle.sun.specs.Longitude.{meanLongitude, centreLongitude}
 use Rattle.sun.proofs.centre_longitude.Statement.{statement}
 use Rattle.sun.proofs.centre_longitude.Tie as tie

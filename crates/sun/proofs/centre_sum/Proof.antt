@@ -1,16 +1,16 @@
--- `sun::centre_sum` meets its contract: the rows stand for the printed terms in whole units, which antt computes.
+-- The rows stand for the printed terms in whole units, which antt computes.
 use mathlib.Core.Path.{_≡_}
 use Prim.Native.Nat.{_*_, _≤_, _^_}
 use native.Mathlib.Nat.{le-trans}
-use borrow.Author.Needs.{needs}
 use lib.Dec.{lit≤}
 use lib.IntN.{natAbs}
 use mir.Facts.{toZ-ofZ}
-use Rattle.exact.specs.Division.{floorDiv, nearest}
+use borrow.Author.Needs.{needs}
+use Rattle.exact.specs.Division.{floorDiv, nearestDiv}
 use Rattle.exact.proofs.Machine.{ok-fits}
 use Rattle.secular.specs.Sizes.{most}
 use Rattle.sine.specs.Sine.{R, Sin}
-use Rattle.arguments.specs.Table.{count}
+use Rattle.arguments.specs.PrintedArguments.{argumentCount}
 use Rattle.series.specs.Sum.{total, weights}
 use Rattle.series.specs.Rows.{kept, steadyTerm, steadyTerms, varyingTerm}
 use Rattle.series.specs.Sizes.{counts}
@@ -33,14 +33,14 @@ unfolding weights most kept steadyTerm steadyTerms varyingTerm counts
 sum-requires c κs =
     let s = c .before .before .before in
     let a = s .pre .1 in
-    (varying-ready count (s .pre .0) (a .reduced) (a .all) (simp (toZ-ofZ, s .fits .q) (s .pre .2)) tt, steady-ready count (s .pre .0) (a .reduced) (a .all) tt)
+    (varying-ready argumentCount (s .pre .0) (a .reduced) (a .all) (simp (toZ-ofZ, s .fits .q) (s .pre .2)) tt, steady-ready argumentCount (s .pre .0) (a .reduced) (a .all) tt)
 
 module _ (c : tie.After-sum) where
   abbrev start : tie.Start
   start = c .before .before .before .before
 
   sum-is : c .sum .result ≡ total Sin (start .args .arguments .now) (start .args .q) centre
-  unfolding kept steadyTerm steadyTerms varyingTerm nearest floorDiv
+  unfolding kept steadyTerm steadyTerms varyingTerm nearestDiv floorDiv
   sum-is = simp (toZ-ofZ, start .fits .q) at (c .sum .ensures .0)
 
   sum-le : natAbs (c .sum .result) ≤ R * 2 ^ 27

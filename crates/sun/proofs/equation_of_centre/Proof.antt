@@ -1,4 +1,4 @@
--- `sun::equation_of_centre` meets its contract: the sum of the centre terms is rounded once.
+-- The sum of the centre terms is rounded once.
 use mathlib.Core.Path.{ap, _∙_}
 use Prim.Native.Nat.{_^_}
 use native.Mathlib.Omega.{arith}
@@ -6,7 +6,7 @@ use lib.IntN.{ℤ}
 use mir.Facts.{toZ-ofZ}
 use mir.Syntax.{w64}
 use mir.Val.{SFits}
-use Rattle.exact.specs.Division.{nearest}
+use Rattle.exact.specs.Division.{nearestDiv}
 use Rattle.exact.proofs.Machine.{ok-fits}
 use Rattle.sine.specs.Sine.{R}
 use Rattle.epoch.proofs.Sizes.{q-size, q-fits}
@@ -31,7 +31,7 @@ returns c =
     let e = simp (toZ-ofZ, sum-fits d) at (c .rounded .ensures) in
     let is = simp (toZ-ofZ, q-fits (d .before .before .pre .2)) at (d .centre-sum .ensures .0) in
     simp (toZ-ofZ, ok-fits (c .rounded .result) (c .rounded .ok))
-    (e .0 ∙ ap (λ (z : ℤ). nearest z R) is, e .1 (2 ^ 27) (d .centre-sum .ensures .1))
+    (e .0 ∙ ap (λ (z : ℤ). nearestDiv z R) is, e .1 (2 ^ 27) (d .centre-sum .ensures .1))
 
 pub equation-of-centre-spec : {M : Type 1} → statement M
 equation-of-centre-spec = tie.close (tie.spec centre-sum-requires rounded-requires returns)

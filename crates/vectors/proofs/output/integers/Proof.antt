@@ -1,0 +1,42 @@
+-- `vectors::output::integers` is safe and ends.
+use mathlib.Core.Path.{_≡_}
+use Prim.Native.Nat.{_-_}
+use lib.ListN.{length}
+use borrow.Author.Needs.{needs}
+use Rattle.vectors.proofs.output.integers.Statement.{statement}
+use Rattle.vectors.proofs.output.integers.Tie as tie
+
+abbrev Inv-loop : tie.InvT-loop
+Inv-loop numbers i₀ i-end i = i-end ≡ length numbers
+
+abbrev μ-loop : tie.MeasureT-loop
+μ-loop numbers i₀ i-end i = i-end - i
+
+loop-holds : tie.Need-loop-holds Inv-loop μ-loop
+loop-holds c = search needs
+
+mul-integer : tie.Need-mul-integer Inv-loop μ-loop
+mul-integer c = search needs
+
+shared-slice-copy-out-integer : tie.Need-shared-slice-copy-out-integer Inv-loop μ-loop
+shared-slice-copy-out-integer c = search needs
+
+integer-requires : tie.Need-integer-requires Inv-loop μ-loop
+integer-requires c κs = search needs
+
+add-i : tie.Need-add-i Inv-loop μ-loop
+add-i c = search needs
+
+loop-less : tie.Need-loop-less Inv-loop μ-loop
+loop-less c = search needs
+
+loop-again : tie.Need-loop-again Inv-loop μ-loop
+loop-again c = search needs
+
+returns : tie.Need-returns Inv-loop μ-loop
+returns c = search needs
+
+pub integers-spec : {M : Type 1} → statement M
+integers-spec =
+    tie.close
+    (tie.spec Inv-loop μ-loop loop-holds mul-integer shared-slice-copy-out-integer integer-requires add-i loop-less loop-again returns)

@@ -1,0 +1,2 @@
+-- What the program's parts hand to each other.
+pub mod Sizes

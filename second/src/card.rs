@@ -1,0 +1,102 @@
+//! The card: what was heard, read out and confirmed of each field. Document 01, "The card".
+
+use crate::digits::text;
+use crate::fieldbook::{shot, Angles, Fields};
+use crate::refusal::Refusal;
+use crate::sine::Sine;
+
+/// The largest magnitude of a heard number.
+pub const LARGEST_HEARD: u64 = 9_999_999;
+
+/// A field of the card.
+#[derive(Clone, Copy, Debug, PartialEq, Eq)]
+pub enum Field {
+    Empty,
+    Heard(i64),
+    Read(i64),
+    Confirmed(i64),
+}
+
+/// The card: ten fields, field 1 first.
+#[derive(Clone, Debug, PartialEq, Eq)]
+pub struct Card {
+    fields: [Field; 10],
+}
+
+impl Default for Card {
+    fn default() -> Self {
+        Self::fresh()
+    }
+}
+
+impl Card {
+    /// A fresh card: DUT1 is confirmed as 0, and the other fields are empty.
+    pub fn fresh() -> Self {
+        let mut fields = [Field::Empty; 10];
+        fields[6] = Field::Confirmed(0);
+        Card { fields }
+    }
+
+    /// The fields, field 1 first.
+    pub fn fields(&self) -> &[Field; 10] {
+        &self.fields
+    }
+
+    /// Puts a number in a field as heard, whatever stood there; refusals 9, 13.
+    pub fn hear(&mut self, field: i64, number: i64) -> Result<(), Refusal> {
+        let place = self.field(field)?;
+        if number.unsigned_abs() > LARGEST_HEARD {
+            return Err(Refusal::NumberTooLarge);
+        }
+        *place = Field::Heard(number);
+        Ok(())
+    }
+
+    /// Writes a field's text at a place of a lent buffer, makes a heard field read and
+    /// returns the text's length; refusals 9, 10, 11.
+    pub fn read(&mut self, field: i64, place: usize, buffer: &mut [u8]) -> Result<usize, Refusal> {
+        let field = self.field(field)?;
+        let number = match *field {
+            Field::Empty => return Err(Refusal::EmptyField),
+            Field::Heard(number) | Field::Read(number) | Field::Confirmed(number) => number,
+        };
+        let text = text(number);
+        let behind = buffer.get_mut(place..).ok_or(Refusal::TextDoesNotFit)?;
+        let target = behind.get_mut(..text.len()).ok_or(Refusal::TextDoesNotFit)?;
+        target.copy_from_slice(&text);
+        if *field == Field::Heard(number) {
+            *field = Field::Read(number);
+        }
+        Ok(text.len())
+    }
+
+    /// Turns a read field into a confirmed one; refusals 9, 12.
+    pub fn confirm(&mut self, field: i64) -> Result<(), Refusal> {
+        let field = self.field(field)?;
+        let Field::Read(number) = *field else {
+            return Err(Refusal::NotRead);
+        };
+        *field = Field::Confirmed(number);
+        Ok(())
+    }
+
+    /// The shot from the card: refusal 1 unless every field is confirmed.
+    pub fn shot(&self, sine: &Sine) -> Result<Angles, Refusal> {
+        let mut numbers: Fields = [0; 10];
+        for (number, field) in numbers.iter_mut().zip(self.fields) {
+            let Field::Confirmed(confirmed) = field else {
+                return Err(Refusal::FieldNotConfirmed);
+            };
+            *number = confirmed;
+        }
+        shot(sine, &numbers)
+    }
+
+    /// The field of a number from 1 to 10, or refusal 9.
+    fn field(&mut self, field: i64) -> Result<&mut Field, Refusal> {
+        match field {
+            1..=10 => Ok(&mut self.fields[field as usize - 1]),
+            _ => Err(Refusal::NoSuchField),
+        }
+    }
+}
