@@ -1,16 +1,19 @@
 /* The field book for C: the functions of the static library libcapi.a (`rt staticlib capi`).
    Each is proved, and docs/PROMISES.md says what that means. They keep nothing between two calls, take any
-   numbers, write to no memory of the caller, and may be called by several threads at once. */
+   numbers, write to no memory of the caller, and may be called by several threads at once. The choice reads
+   the two lists lent to it; the others read no memory of the caller either. */
 #ifndef FIELDBOOK_H
 #define FIELDBOOK_H
 
+#include <stddef.h>
 #include <stdint.h>
 
 #ifdef __cplusplus
 extern "C" {
 #endif
 
-/* Why a shot is refused. Where several apply, the lowest is given. */
+/* Why there is no answer. Where several apply, a shot or a pointing gives the lowest, and a choice
+   gives 16 before 15. */
 enum fieldbook_refusal {
     FIELDBOOK_ANSWERED = 0,
     FIELDBOOK_NO_DATE = 2,       /* no such date, or not in 1976 to 2049 */
@@ -19,7 +22,9 @@ enum fieldbook_refusal {
     FIELDBOOK_NO_POSITION = 5,   /* latitude or longitude out of range */
     FIELDBOOK_NO_BODY = 6,       /* body neither 1 nor 2 */
     FIELDBOOK_BELOW_HORIZON = 7, /* the body is below the horizon */
-    FIELDBOOK_NEAR_ZENITH = 8    /* the body is too near the zenith for an azimuth */
+    FIELDBOOK_NEAR_ZENITH = 8,   /* the body is too near the zenith for an azimuth */
+    FIELDBOOK_NO_ANGLE = 15,     /* a horizontal angle or a result not in 0 to 12,959,999,999 */
+    FIELDBOOK_NO_LIST = 16       /* a list of results empty or longer than 64 */
 };
 
 /* A shot's answer, its angles in units of 0.0001 second of arc, 0 to 12,959,999,999. Check the
@@ -53,6 +58,57 @@ enum fieldbook_body { FIELDBOOK_SUN = 1, FIELDBOOK_POLARIS = 2 };
 struct fieldbook_shot_answer fieldbook_shot(int64_t year, int64_t month, int64_t day, int64_t hour,
                                             int64_t minute, int64_t millisecond, int64_t dut1,
                                             int64_t latitude, int64_t longitude, int64_t body);
+
+/* A pointing's answer. Check the refusal first: a refused pointing has no mark, and what stands for
+   it is 0, which is also the azimuth of a mark due north. */
+struct fieldbook_pointing_answer {
+    uint64_t refusal; /* 2 to 8 or 15 of enum fieldbook_refusal, 0 where the pointing is answered */
+    uint64_t mark;    /* azimuth of the mark from north, clockwise, in units of 0.0001 second of arc,
+                         0 to 12,959,999,999 */
+};
+
+/* The pointing: the azimuth of a reference mark, which is the body's less the horizontal angle,
+   reduced to one turn. The first ten numbers are those of the shot, which is tested before the angle.
+
+   angle               horizontal angle, clockwise from the mark to the body, in units of 0.0001
+                       second of arc, 0 to 12,959,999,999
+
+       struct fieldbook_pointing_answer a = fieldbook_pointing(
+           1984, 7, 2, 14, 30, 0, 0, 1224000, -4230000, FIELDBOOK_SUN, 1234567890);
+       if (a.refusal != FIELDBOOK_ANSWERED)
+           return a.refusal;
+       set_out(a.mark); */
+struct fieldbook_pointing_answer fieldbook_pointing(int64_t year, int64_t month, int64_t day,
+                                                    int64_t hour, int64_t minute,
+                                                    int64_t millisecond, int64_t dut1,
+                                                    int64_t latitude, int64_t longitude,
+                                                    int64_t body, int64_t angle);
+
+/* A choice's answer. Check the refusal first: with one, neither list is chosen, list is 1 and count
+   is 0. */
+struct fieldbook_choice_answer {
+    uint64_t refusal; /* 15 or 16 of enum fieldbook_refusal, 0 where a list is chosen */
+    uint64_t list;    /* 1 the first list, 2 the second */
+    uint64_t count;   /* how many results the list chosen has: all that were lent */
+};
+
+/* The choice: of two lists of results the one of smaller spread, the first on a tie. The spread is
+   the largest result less the smallest, as plain numbers: results on both sides of north lie far
+   apart.
+
+   first, second       results in units of 0.0001 second of arc, each 0 to 12,959,999,999. Each
+                       pointer must be valid for as many numbers as its count says, and is not read
+                       where that is 0. They are only read; no other thread may change them during
+                       the call. The two lists may overlap.
+   .._count            how many numbers, 1 to 64
+
+       struct fieldbook_choice_answer a = fieldbook_choice(first, 12, second, 8);
+       if (a.refusal != FIELDBOOK_ANSWERED)
+           return a.refusal;
+       const int64_t *narrower = a.list == 2 ? second : first;
+       set_out_all(narrower, a.count); */
+struct fieldbook_choice_answer fieldbook_choice(const int64_t *first, size_t first_count,
+                                                const int64_t *second, size_t second_count);
 
 #ifdef __cplusplus
 }

@@ -14,10 +14,16 @@ UNITS = {"d": 36_000_000, "h": 540_000_000, "s": 10_000}
 QUANTITIES = ["longitude", "nutation-in-longitude", "nutation-in-obliquity", "obliquity", "sidereal-time", "right-ascension", "declination"]
 
 
+def answers(second, command, lines):
+    """What the second program answers each line with."""
+    given = "".join(line + "\n" for line in lines)
+    out = subprocess.run([second, command], input=given, stdout=subprocess.PIPE, text=True, check=True).stdout
+    return [line.split(" = ")[1] for line in out.splitlines()]
+
+
 def ask(second, command, words):
-    """The words that the second program answers a line with."""
-    out = subprocess.run([second, command], input=words + "\n", stdout=subprocess.PIPE, text=True, check=True).stdout
-    return out.split(" = ")[1].split()
+    """The words that it answers one line with."""
+    return answers(second, command, [words])[0].split()
 
 
 def parts(second, words):

@@ -2,7 +2,7 @@
 """vectors.py VECTORS SECOND: writes the stored run of the program `vectors`, crates/vectors/stdin and stdout: a line that asks, and the line that must
 answer it. VECTORS is the folder of the outside vectors, SECOND the second program. No answer comes from the program under test: most are what the vector
 files have behind the `=`, the lines of crates/vectors/cases.txt are answered there, and the Sun's numbers at the almanacs' instants are the second
-program's. Prints how many lines each word has. Where a line of longitude.txt breaks its own bound, nothing is written."""
+program's, as are the calls that bring the numbers of a pointing onto a card. Prints how many lines each word has. Where a line of longitude.txt breaks its own bound, nothing is written."""
 import collections
 import os
 import sys
@@ -21,6 +21,12 @@ VIEW = "vector x east z_component up north azimuth zenith hour_angle".split()
 # card alone
 SHOTS = 4
 CALLS = 20
+# of the pointings from a card, so many of each refusal and of each body; a number that can be heard is at most so large; the buffer that it is read into
+POINTINGS = 1
+HEARD = 9_999_999
+EMPTY = "00" * 15
+# the most numbers of a line
+NUMBERS = 11
 # a latitude from which Polaris is always seen, 45° in 0.1″
 NORTH = 1_620_000
 
@@ -84,16 +90,52 @@ def own_cases(second, lines):
     return found
 
 
-def some_shots(lines):
-    """The first shots of each refusal, and of each body that is answered."""
+def first_of_each(lines, count):
+    """The first lines of each refusal, and of each body that is answered."""
     taken, found = collections.Counter(), []
     for left, right in lines:
         refusal, body = right.split()[0], left.split()[9]
         kind = (refusal, body if refusal == "0" else "")
         taken[kind] += 1
-        if taken[kind] <= SHOTS:
-            found.append((f"shot {left}", right))
+        if taken[kind] <= count:
+            found.append((left, right))
     return found
+
+
+def some_shots(lines):
+    return [(f"shot {left}", right) for left, right in first_of_each(lines, SHOTS)]
+
+
+def pointings_from_cards(second, lines):
+    """A pointing of each kind from a card: refused by 1 on the fresh card, and answered as pointing.txt has it where every number was heard, read and
+    confirmed. The calls before it are answered by the second program, which must agree on the pointing."""
+    found = []
+    for left, right in first_of_each([(left, right) for left, right in lines if can_be_heard(left)], POINTINGS):
+        *fields, angle = left.split()
+        calls = ["fresh", f"pointing {angle}"]
+        for number, value in enumerate(fields, 1):
+            calls += [f"hear {number} {value}", f"read {number} 0 {EMPTY}", f"confirm {number}"]
+        calls.append(f"pointing {angle}")
+        answers = almanac.answers(second, "card", calls)
+        if not answers[-1].startswith(f"{right} |"):
+            sys.exit(f"the second program has {answers[-1]}: {left} = {right}")
+        found += zip(calls, answers)
+    return found
+
+
+def choices(lines):
+    """The lines of choice.txt that a line of this program has room for; the answer has the results themselves that are handed back."""
+    found = []
+    for left, right in lines:
+        numbers, (refusal, which, count) = left.split(), right.split()
+        if len(numbers) <= NUMBERS:
+            start = 1 if which == "1" else int(numbers[0]) + 2
+            found.append((f"choice {left}", " ".join([refusal] + numbers[start : start + int(count)])))
+    return found
+
+
+def can_be_heard(left):
+    return all(abs(int(value)) <= HEARD for value in left.split()[:-1])
 
 
 def calls_and_shots(calls, shots):
@@ -117,6 +159,8 @@ def main(folder, second):
         + steps(vectors("parts.txt"))
         + suns(second)
         + calls_and_shots(vectors("card.txt"), some_shots(vectors("shot.txt")))
+        + pointings_from_cards(second, vectors("pointing.txt"))
+        + choices(vectors("choice.txt"))
     )
     for name, side in (("stdin", 0), ("stdout", 1)):
         with open(os.path.join(crate, name), "w") as file:

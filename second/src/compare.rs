@@ -1,103 +1,45 @@
-//! Comparison of another program, or of a library's function of plain numbers, with
-//! this one on random input; and counts of the refusals that were reached.
+//! Comparison of another program, or of a library's functions of plain numbers, with this
+//! one on random input, and of a library with the outside vectors.
 
-use crate::fieldbook::{shot, Angles, Fields};
+use crate::counts::{answered_or, Counts, Outcome};
 use crate::lines::joined;
-use crate::random::{shot_fields, Random};
+use crate::question::{answer_text, asked, BatchQuestion, LibraryAnswer, Question};
+use crate::random::Random;
 use crate::random_lines::Lines;
-use crate::refusal::Refusal;
+use crate::replay::batch_line;
 use crate::sine::Sine;
-use std::fmt;
 
-/// How often a comparison must reach each refusal, and an answered shot.
-pub const LEAST: u64 = 100;
 /// The most lines of a short session.
 const SHORT: i64 = 2_000;
-/// The refusals that plain shots reach.
-pub const REFUSALS_OF_A_SHOT: [usize; 7] = [2, 3, 4, 5, 6, 7, 8];
-/// The refusals that lines of ten numbers reach.
-pub const REFUSALS_OF_SHOTS: [usize; 8] = [2, 3, 4, 5, 6, 7, 8, 14];
-/// The refusals that a session reaches; its buffer always holds the text, so 11 is none.
-pub const REFUSALS_OF_A_SESSION: [usize; 13] = [1, 2, 3, 4, 5, 6, 7, 8, 9, 10, 12, 13, 14];
 
-/// How often each refusal was given, and how often a shot was answered.
-#[derive(Clone, Debug, Default, PartialEq, Eq)]
-pub struct Counts {
-    pub answered: u64,
-    /// By number; 0 isn't used.
-    pub refusals: [u64; 15],
-    /// Lines that are neither: `ok` and texts read back.
-    pub others: u64,
-}
+/// A way to ask a library, and its name.
+pub type Way<'a, Q> = (&'a str, &'a dyn Fn(&Q) -> LibraryAnswer<Q>);
 
-impl Counts {
-    /// Counts one line of output.
-    pub fn take_line(&mut self, line: &str) {
-        let number = line.strip_prefix("no ").and_then(|text| text.parse::<usize>().ok());
-        match number {
-            Some(number @ 1..=14) => self.refusals[number] += 1,
-            _ if line.starts_with("az ") => self.answered += 1,
-            _ => self.others += 1,
-        }
-    }
-
-    /// Counts one plain shot.
-    fn take_shot(&mut self, result: &Result<Angles, Refusal>) {
-        match result {
-            Ok(_) => self.answered += 1,
-            Err(refusal) => self.refusals[refusal.number() as usize] += 1,
-        }
-    }
-
-    /// Adds the counts of another run.
-    pub fn add(&mut self, other: &Counts) {
-        self.answered += other.answered;
-        self.others += other.others;
-        for (count, more) in self.refusals.iter_mut().zip(other.refusals) {
-            *count += more;
-        }
-    }
-
-    /// All that was counted.
-    pub fn total(&self) -> u64 {
-        self.answered + self.others + self.refusals.iter().sum::<u64>()
-    }
-
-    /// An error when a refusal of the list, or an answer, was given fewer than `least` times.
-    pub fn all_reached(&self, expected: &[usize], least: u64) -> Result<(), String> {
-        let rare = expected.iter().find(|&&number| self.refusals[number] < least);
-        match rare {
-            Some(&number) => {
-                let count = self.refusals[number];
-                Err(format!("refusal {number} was reached {count} times, fewer than {least}"))
-            }
-            None if self.answered < least => {
-                Err(format!("{} shots were answered, fewer than {least}", self.answered))
-            }
-            None => Ok(()),
-        }
-    }
-}
-
-impl fmt::Display for Counts {
-    fn fmt(&self, f: &mut fmt::Formatter<'_>) -> fmt::Result {
-        writeln!(f, "answered {}", self.answered)?;
-        for (number, count) in self.refusals.iter().enumerate().skip(1) {
-            writeln!(f, "no {number} {count}")?;
-        }
-        write!(f, "others {}", self.others)
-    }
-}
-
-/// Random shots as lines of ten numbers.
-pub fn random_shots(sine: &Sine, seed: u64, count: u64) -> Vec<u8> {
+/// Random questions as lines of numbers.
+pub fn random_batch<Q: BatchQuestion>(sine: &Sine, seed: u64, count: u64) -> Vec<u8> {
     let mut random = Random::new(seed);
     let mut text = Vec::new();
     for _ in 0..count {
-        text.extend(joined(&shot_fields(&mut random, sine)).bytes());
+        text.extend(joined(&Q::random(&mut random, sine).numbers()).bytes());
         text.push(b'\n');
     }
     text
+}
+
+/// This program's answers to the lines of a batch.
+pub fn batch_answers<Q: BatchQuestion>(sine: &Sine, input: &[u8]) -> Vec<u8> {
+    let mut answers = Vec::new();
+    for line in input.split_inclusive(|&byte| byte == b'\n') {
+        let line = line.strip_suffix(b"\n").unwrap_or(line);
+        answers.extend(batch_line::<Q>(sine, line).bytes());
+        answers.push(b'\n');
+    }
+    answers
+}
+
+/// The outcomes that a batch reaches: 14 too, where a number has more digits than a line's may.
+pub fn outcomes_of_a_batch<Q: BatchQuestion>() -> Vec<Outcome> {
+    [Q::outcomes(), vec![Outcome::Refused(14)]].concat()
 }
 
 /// The seed and the number of lines of each of several random sessions, `count` lines in
@@ -130,6 +72,11 @@ pub fn random_lines(sine: &Sine, seed: u64, count: u64) -> Vec<u8> {
     text
 }
 
+/// The outcomes that sessions reach; their buffer always holds the text, so 11 is none.
+pub fn outcomes_of_sessions() -> Vec<Outcome> {
+    answered_or((1..=14).filter(|&number| number != 11))
+}
+
 /// Counts the lines of two outputs that must be equal, or says where they part.
 pub fn equal_outputs(expected: &[u8], given: &[u8]) -> Result<Counts, String> {
     let mut counts = Counts::default();
@@ -141,7 +88,7 @@ pub fn equal_outputs(expected: &[u8], given: &[u8]) -> Result<Counts, String> {
             let other = String::from_utf8_lossy(other);
             return Err(format!("line {}: {text:?} expected, {other:?} given", i + 1));
         }
-        counts.take_line(text.trim_end());
+        counts.add_line(text.trim_end());
     }
     match given_lines.next() {
         Some(_) => Err("the other output has more lines".to_string()),
@@ -149,27 +96,46 @@ pub fn equal_outputs(expected: &[u8], given: &[u8]) -> Result<Counts, String> {
     }
 }
 
-/// Compares a library (ten numbers in, refusal number and four angles out) with this program on
-/// random shots; the error tells the first shot that differs.
-pub fn compare_library(
+/// An error where one of the ways to a library doesn't lead to the expected answer.
+fn all_answer<Q: Question>(ways: &[Way<Q>], question: &Q, expected: &str) -> Result<(), String> {
+    for (name, ask) in ways {
+        let given = answer_text(&ask(question));
+        if given != expected {
+            let line = joined(&question.numbers());
+            return Err(format!("{name}, {line}: {expected} expected, {given} given"));
+        }
+    }
+    Ok(())
+}
+
+/// Compares a library, asked in each of some ways, with this program on random questions; the
+/// error tells the first that is answered otherwise.
+pub fn compare_library<Q: Question>(
     sine: &Sine,
     (seed, count): (u64, u64),
-    mut library: impl FnMut(&Fields) -> (u64, [u64; 4]),
+    ways: &[Way<Q>],
 ) -> Result<Counts, String> {
     let mut random = Random::new(seed);
     let mut counts = Counts::default();
     for _ in 0..count {
-        let fields = shot_fields(&mut random, sine);
-        let given = library(&fields);
-        let result = shot(sine, &fields);
-        let expected = match result {
-            Ok(a) => (0, a.words()),
-            Err(refusal) => (refusal.number() as u64, [0; 4]),
-        };
-        if given != expected {
-            return Err(format!("{}: {expected:?} expected, {given:?} given", joined(&fields)));
-        }
-        counts.take_shot(&result);
+        let question = Q::random(&mut random, sine);
+        let answer = Q::as_library(question.answer(sine));
+        all_answer(ways, &question, &answer_text(&answer))?;
+        counts.add(question.outcome(&answer), 1);
     }
     Ok(counts)
+}
+
+/// Compares a library, asked in each of some ways, with vectors, lines `numbers = answer`, and
+/// returns how many there are; the error tells the first that is answered otherwise.
+pub fn compare_vectors<Q: Question>(file: &str, ways: &[Way<Q>]) -> Result<usize, String> {
+    let mut compared = 0;
+    for line in file.lines().filter(|line| !line.starts_with('#')) {
+        let (given, expected) =
+            line.split_once(" = ").ok_or_else(|| format!("{line}: no answer"))?;
+        let question = asked::<Q>(given.as_bytes()).map_err(|_| format!("{line}: malformed"))?;
+        all_answer(ways, &question, expected)?;
+        compared += 1;
+    }
+    Ok(compared)
 }

@@ -43,6 +43,12 @@ pub fn reduce(angle: i64) -> i64 {
     angle.rem_euclid(TURN)
 }
 
+/// Whether an angle is 0 .. turn - 1 as it stands.
+#[inline(always)]
+pub fn is_reduced(angle: i64) -> bool {
+    (0..TURN).contains(&angle)
+}
+
 /// The square root, rounded down.
 #[inline]
 pub fn square_root(value: u64) -> u64 {

@@ -1,5 +1,6 @@
-//! A second program for document 01: an independent implementation in plain Rust, written
-//! from the papers alone, to which the proved book is compared.
+//! A second program for document 01 and the requests of document 02: an independent
+//! implementation in plain Rust, written from the papers alone, to which the proved book is
+//! compared.
 
 pub mod angle;
 pub mod arguments;
@@ -7,6 +8,7 @@ pub mod bench;
 pub mod calendar;
 pub mod card;
 pub mod compare;
+pub mod counts;
 pub mod digits;
 pub mod exact;
 pub mod fieldbook;
@@ -15,9 +17,12 @@ pub mod horizon;
 pub mod lines;
 pub mod natural;
 pub mod parts;
+pub mod pointing;
 pub mod polaris;
 pub mod polynomial;
+pub mod question;
 pub mod random;
+pub mod random_choices;
 pub mod random_lines;
 pub mod refusal;
 pub mod replay;
@@ -25,4 +30,5 @@ pub mod rotation;
 pub mod series;
 pub mod session;
 pub mod sine;
+pub mod spread;
 pub mod sun;

@@ -1,6 +1,5 @@
 //! Words and numbers of a line. Document 01, "One session, whole".
 
-use crate::fieldbook::Fields;
 use crate::refusal::Refusal;
 
 /// The most digits of a number on a line of plain numbers: any such number fits 64 bits.
@@ -22,23 +21,18 @@ pub fn number(word: &[u8], most_digits: usize) -> Result<i64, Refusal> {
     Ok(if digits.len() < word.len() { -magnitude } else { magnitude })
 }
 
+/// A line of plain numbers, or refusal 14.
+pub fn all_numbers(line: &[u8]) -> Result<Vec<i64>, Refusal> {
+    words(line).into_iter().map(|word| number(word, MOST_DIGITS)).collect()
+}
+
 /// A line of exactly `COUNT` plain numbers, or refusal 14.
 pub fn numbers<const COUNT: usize>(line: &[u8]) -> Result<[i64; COUNT], Refusal> {
-    let words: [&[u8]; COUNT] = words(line).try_into().map_err(|_| Refusal::MalformedLine)?;
-    let mut values = [0; COUNT];
-    for (value, word) in values.iter_mut().zip(words) {
-        *value = number(word, MOST_DIGITS)?;
-    }
-    Ok(values)
+    all_numbers(line)?.try_into().map_err(|_| Refusal::MalformedLine)
 }
 
 /// Numbers as words with one space between.
-pub fn joined(numbers: &[i64]) -> String {
-    let words: Vec<String> = numbers.iter().map(i64::to_string).collect();
+pub fn joined(numbers: &[impl ToString]) -> String {
+    let words: Vec<String> = numbers.iter().map(ToString::to_string).collect();
     words.join(" ")
-}
-
-/// The ten numbers of a shot, or refusal 14.
-pub fn fields(line: &[u8]) -> Result<Fields, Refusal> {
-    numbers(line)
 }

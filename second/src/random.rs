@@ -1,8 +1,8 @@
-//! Seeded random shots and session lines, to compare the proved book with this program.
+//! Seeded random shots and pointings, to compare the proved book with this program.
 
 use crate::angle::angle;
 use crate::exact::{reduce, square_root, QUADRANT, SCALE, TURN};
-use crate::fieldbook::{reduction, Fields, LARGEST_LATITUDE, LARGEST_LONGITUDE};
+use crate::fieldbook::{reduction, shot, Fields, LARGEST_LATITUDE, LARGEST_LONGITUDE};
 use crate::rotation::Direction;
 use crate::sine::Sine;
 
@@ -58,7 +58,7 @@ const RANGES: [(i64, i64); 10] = [
 ];
 
 /// Numbers that no field accepts or that lie at the ends of their types.
-const EXTREMES: [i64; 14] = [
+pub const EXTREMES: [i64; 14] = [
     i64::MIN,
     i64::MIN + 1,
     i64::MAX,
@@ -119,6 +119,25 @@ pub fn shot_fields(random: &mut Random, sine: &Sine) -> Fields {
         8 => near_horizon(random, sine),
         _ => any_numbers(random),
     }
+}
+
+/// A shot and a horizontal angle: any, at a limit, out of range, or one unit or less from the
+/// azimuth of the body.
+pub fn pointing_numbers(random: &mut Random, sine: &Sine) -> (Fields, i64) {
+    let fields = shot_fields(random, sine);
+    let angle = match random.between(0, 5) {
+        0 => random.choose(&[-1, 0, 1, TURN - 1, TURN, TURN + 1]),
+        1 => random.choose(&EXTREMES),
+        2 => any_size(random),
+        3 => shot(sine, &fields).unwrap_or_default().azimuth + random.between(-1, 1),
+        _ => random.between(0, TURN - 1),
+    };
+    (fields, angle)
+}
+
+/// A number of any size, each number of bits as likely as another.
+pub fn any_size(random: &mut Random) -> i64 {
+    random.bits() as i64 >> random.between(0, 63)
 }
 
 /// Uniform in every field: refusals 2 to 6 don't apply.
@@ -198,7 +217,7 @@ fn any_numbers(random: &mut Random) -> Fields {
     for field in &mut fields {
         match random.between(0, 5) {
             0 => *field = random.choose(&EXTREMES),
-            1 => *field = random.bits() as i64 >> random.between(0, 63),
+            1 => *field = any_size(random),
             _ => {}
         }
     }

@@ -1,6 +1,6 @@
-//! The refusals. Document 01, "Refusal numbers".
+//! The refusals. Document 01, "Refusal numbers", and document 02, request 1.
 
-/// A refusal; its number in document 01 is its value.
+/// A refusal; its number in the documents is its value.
 #[derive(Clone, Copy, Debug, PartialEq, Eq)]
 pub enum Refusal {
     FieldNotConfirmed = 1,
@@ -17,10 +17,12 @@ pub enum Refusal {
     NotRead = 12,
     NumberTooLarge = 13,
     MalformedLine = 14,
+    AngleOutOfRange = 15,
+    LengthOutOfRange = 16,
 }
 
 impl Refusal {
-    /// The number of document 01.
+    /// The number of the documents.
     pub fn number(self) -> i64 {
         self as i64
     }

@@ -1,14 +1,15 @@
-//! Answers to single lines of the vectors' formats and of the batch program.
+//! Answers to single lines of the vectors' formats and of the batch programs.
 
 use crate::angle::angle;
 use crate::arguments::{Arguments, ALL};
 use crate::calendar::instant;
 use crate::card::{Card, Field};
-use crate::fieldbook::{shot, Angles};
 use crate::frame::frame;
-use crate::lines::{fields, joined, number, numbers, words, MOST_DIGITS};
+use crate::lines::{joined, number, numbers, words, MOST_DIGITS};
 use crate::parts::parts;
+use crate::pointing::pointing_from_card;
 use crate::polynomial::Polynomial;
+use crate::question::{answer_text, asked, BatchQuestion, Question};
 use crate::refusal::Refusal;
 use crate::sine::Sine;
 use crate::sun::{polynomial_longitude, sun};
@@ -21,19 +22,26 @@ pub fn refused(refusal: Refusal) -> String {
     format!("no {}", refusal.number())
 }
 
-/// The batch program: ten numbers -> `az A zd Z ha H s S` or `no N`.
-pub fn shots_line(sine: &Sine, line: &[u8]) -> String {
-    match fields(line).and_then(|fields| shot(sine, &fields)) {
-        Ok(Angles { azimuth, zenith_distance, hour_angle, apparent_longitude }) => {
-            format!("az {azimuth} zd {zenith_distance} ha {hour_angle} s {apparent_longitude}")
+/// A batch program: numbers -> the values of the answer, each behind its name, or `no N`.
+pub fn batch_line<Q: BatchQuestion>(sine: &Sine, line: &[u8]) -> String {
+    match asked::<Q>(line).and_then(|question| question.answer(sine)) {
+        Ok(values) => {
+            let named = Q::NAMES.iter().zip(values.as_ref());
+            let words: Vec<String> = named.map(|(name, value)| format!("{name} {value}")).collect();
+            words.join(" ")
         }
         Err(refusal) => refused(refusal),
     }
 }
 
+/// The numbers of a question -> the refusal's number, 0 for none, and the answer's values.
+pub fn question_line<Q: Question>(sine: &Sine, line: &[u8]) -> Result<String, Refusal> {
+    Ok(answer_text(&Q::as_library(asked::<Q>(line)?.answer(sine))))
+}
+
 /// Ten numbers -> every step by name.
 pub fn parts_line(sine: &Sine, line: &[u8]) -> Result<String, Refusal> {
-    parts(sine, &fields(line)?)
+    parts(sine, &numbers(line)?)
 }
 
 /// a -> Sin(a) Cos(a).
@@ -68,8 +76,8 @@ fn refusal_number<T>(result: Result<T, Refusal>) -> i64 {
     result.map_or_else(Refusal::number, |_| 0)
 }
 
-/// One call on the card: `fresh`, `hear F N`, `read F PLACE BUFFER`, `confirm F` or `shot`
-/// -> what it returned, then the card's fields.
+/// One call on the card: `fresh`, `hear F N`, `read F PLACE BUFFER`, `confirm F`, `shot` or
+/// `pointing A` -> what it returned, then the card's fields.
 pub fn card_line(sine: &Sine, card: &mut Card, line: &[u8]) -> Result<String, Refusal> {
     let words = words(line);
     let number = |i: usize| number(words[i], MOST_DIGITS);
@@ -82,6 +90,7 @@ pub fn card_line(sine: &Sine, card: &mut Card, line: &[u8]) -> Result<String, Re
         (b"confirm", 2) => format!("{} ", refusal_number(card.confirm(number(1)?))),
         (b"read", 4) => read_call(card, number(1)?, number(2)?, words[3])?,
         (b"shot", 1) => shot_call(sine, card),
+        (b"pointing", 2) => pointing_call(sine, card, number(1)?),
         _ => return Err(Refusal::MalformedLine),
     };
     let fields: Vec<String> = card.fields().iter().map(field_text).collect();
@@ -101,8 +110,13 @@ fn read_call(card: &mut Card, field: i64, place: i64, hex: &[u8]) -> Result<Stri
 fn shot_call(sine: &Sine, card: &Card) -> String {
     let result = card.shot(sine);
     let a = result.unwrap_or_default();
-    let angles = [a.azimuth, a.zenith_distance, a.hour_angle, a.apparent_longitude];
-    format!("{} {} ", refusal_number(result), joined(&angles))
+    format!("{} {} ", refusal_number(result), joined(&a.words()))
+}
+
+/// A pointing from the card: refusal and the mark's azimuth, 0 when refused.
+fn pointing_call(sine: &Sine, card: &Card, angle: i64) -> String {
+    let result = pointing_from_card(sine, card, angle);
+    format!("{} {} ", refusal_number(result), result.unwrap_or_default())
 }
 
 /// A field's state and number: e, hN, rN, cN.
@@ -134,4 +148,32 @@ fn to_hex(bytes: &[u8]) -> String {
         return "-".to_string();
     }
     bytes.iter().map(|byte| format!("{byte:02x}")).collect()
+}
+
+#[cfg(test)]
+mod tests {
+    use super::*;
+
+    /// A pointing from the card answers with the card as it was.
+    #[test]
+    fn pointing_from_a_card() {
+        let sine = Sine::new();
+        let mut card = Card::fresh();
+        let mut answer = |line: &str| card_line(&sine, &mut card, line.as_bytes());
+        let fresh = "| e e e e e e c0 e e e";
+        assert_eq!(answer("pointing -1"), Ok(format!("1 0 {fresh}")));
+        let fields = [1976, 3, 21, 19, 31, 44_080, -758, 1_795_363, -1_612_009, 1];
+        for (field, number) in (1..).zip(fields) {
+            for call in ["hear F N", "read F 0 000000000000000000000000000000", "confirm F"] {
+                let call = call.replace('F', &format!("{field}"));
+                assert!(answer(&call.replace('N', &format!("{number}"))).is_ok());
+            }
+        }
+        let confirmed = "| c1976 c3 c21 c19 c31 c44080 c-758 c1795363 c-1612009 c1";
+        assert_eq!(answer("pointing 473"), Ok(format!("0 9066567000 {confirmed}")));
+        assert_eq!(answer("pointing -1"), Ok(format!("15 0 {confirmed}")));
+        for line in ["pointing", "pointing  5", "pointing 5 5", "pointing x"] {
+            assert_eq!(answer(line), Err(Refusal::MalformedLine));
+        }
+    }
 }

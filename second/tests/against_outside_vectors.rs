@@ -1,13 +1,13 @@
 //! Every line of the outside vectors in `data/` must agree whole.
 
 use second::card::Card;
-use second::fieldbook::shot;
-use second::lines::{fields, joined};
 use second::polynomial::Polynomial;
+use second::question::{asked, Choice, Pointing, Shot};
 use second::refusal::Refusal;
 use second::replay;
 use second::session;
 use second::sine::Sine;
+use second::spread::{choose, Chosen};
 
 /// Compares each `given = expected` line with an answer; the file must have `count` lines.
 fn agree(file: &str, count: usize, mut answer: impl FnMut(&[u8]) -> Result<String, Refusal>) {
@@ -23,12 +23,36 @@ fn agree(file: &str, count: usize, mut answer: impl FnMut(&[u8]) -> Result<Strin
 #[test]
 fn shot_vectors() {
     let sine = Sine::new();
-    agree(include_str!("data/shot.txt"), 1_540, |line| {
-        let result = shot(&sine, &fields(line)?);
-        let number = result.map_or_else(Refusal::number, |_| 0);
-        let a = result.unwrap_or_default();
-        let azimuth = a.azimuth;
-        Ok(joined(&[number, azimuth, a.zenith_distance, a.hour_angle, a.apparent_longitude]))
+    agree(include_str!("data/shot.txt"), 1_540, |line| replay::question_line::<Shot>(&sine, line));
+}
+
+#[test]
+fn pointing_vectors() {
+    let sine = Sine::new();
+    agree(include_str!("data/pointing.txt"), 400, |line| {
+        replay::question_line::<Pointing>(&sine, line)
+    });
+}
+
+#[test]
+fn choice_vectors() {
+    let sine = Sine::new();
+    agree(include_str!("data/choice.txt"), 160, |line| {
+        replay::question_line::<Choice>(&sine, line)
+    });
+}
+
+/// Which list it is, told by where the slice lies: the list itself is handed back, and with a
+/// refusal the empty front of the first.
+#[test]
+fn choice_vectors_without_a_copy() {
+    agree(include_str!("data/choice.txt"), 160, |line| {
+        let Choice { first, second } = asked(line)?;
+        let Chosen { list, part } = choose(&first, &second);
+        let lists = [first.as_ptr(), second.as_ptr()];
+        let place = lists.iter().position(|&start| start == part.as_ptr()).expect("a list");
+        let number = list.map_or_else(Refusal::number, |_| 0);
+        Ok(format!("{number} {} {}", place + 1, part.len()))
     });
 }
 

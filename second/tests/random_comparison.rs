@@ -2,44 +2,93 @@
 //! another that differs.
 
 use second::compare::{
-    compare_library, equal_outputs, random_lines, random_sessions, random_shots, Counts,
-    REFUSALS_OF_A_SESSION, REFUSALS_OF_A_SHOT,
+    batch_answers, compare_library, compare_vectors, equal_outputs, outcomes_of_a_batch,
+    outcomes_of_sessions, random_batch, random_lines, random_sessions, Way,
 };
-use second::fieldbook::{shot, Fields};
+use second::counts::{Counts, Outcome, LEAST};
+use second::question::{BatchQuestion, Choice, LibraryAnswer, Pointing, Question, Shot};
 use second::session;
 use second::sine::Sine;
 
 const COUNT: u64 = 20_000;
 
-/// This program's shot as a library answers it.
-fn library(sine: &Sine, fields: &Fields) -> (u64, [u64; 4]) {
-    match shot(sine, fields) {
-        Ok(a) => (0, a.words()),
-        Err(refusal) => (refusal.number() as u64, [0; 4]),
-    }
+/// The comparison of this program with a library that answers as it does but for one change.
+fn changed<Q: Question>(change: impl Fn(&Q, &mut LibraryAnswer<Q>)) -> Result<Counts, String> {
+    let sine = Sine::new();
+    let right = |question: &Q| Q::as_library(question.answer(&sine));
+    let wrong = |question: &Q| {
+        let mut answer = right(question);
+        change(question, &mut answer);
+        answer
+    };
+    compare_library(&sine, (1, COUNT), &[("right", &right), ("wrong", &wrong)])
+}
+
+/// A library that answers as this program does agrees, and every outcome is reached.
+fn reaches_every_outcome<Q: Question>() {
+    let counts = changed::<Q>(|_, _| {}).unwrap();
+    assert_eq!(counts.all_reached(&Q::outcomes(), LEAST), Ok(()));
+    assert_eq!(counts.total(), COUNT);
 }
 
 #[test]
-fn shots_reach_every_refusal() {
-    let sine = Sine::new();
-    let counts = compare_library(&sine, (1, COUNT), |fields| library(&sine, fields)).unwrap();
-    assert_eq!(counts.all_reached(&REFUSALS_OF_A_SHOT, 100), Ok(()));
+fn libraries_reach_every_outcome() {
+    reaches_every_outcome::<Shot>();
+    reaches_every_outcome::<Pointing>();
+    reaches_every_outcome::<Choice>();
 }
 
 #[test]
 fn a_library_that_differs_is_found() {
+    let late = changed::<Shot>(|shot, (number, angles)| {
+        angles[3] += u64::from(*number == 0 && shot.fields[0] == 2049);
+    });
+    assert!(late.is_err());
+    let refused_with_an_angle = changed::<Shot>(|_, (number, angles)| {
+        angles[3] += u64::from(*number == 8);
+    });
+    assert!(refused_with_an_angle.is_err());
+    let turn_for_north = changed::<Pointing>(|_, (number, mark)| {
+        mark[0] += if *number == 0 && mark[0] == 0 { 12_960_000_000 } else { 0 };
+    });
+    assert!(turn_for_north.is_err());
+    let longest_refused = changed::<Choice>(|choice, answer| {
+        if answer.0 == 0 && choice.second.len() == 64 {
+            *answer = (16, [1, 0]);
+        }
+    });
+    assert!(longest_refused.is_err());
+    let last_not_tested = changed::<Choice>(|choice, answer| {
+        if answer.0 == 15 && choice.first.last() == Some(&i64::MAX) {
+            *answer = (0, [2, choice.second.len() as u64]);
+        }
+    });
+    assert!(last_not_tested.is_err());
+}
+
+/// This program's answers to a random batch reach every outcome, and 14.
+fn batch_reaches_every_outcome<Q: BatchQuestion>() {
     let sine = Sine::new();
-    let late = |fields: &Fields| {
-        let (number, mut angles) = library(&sine, fields);
-        angles[3] += u64::from(number == 0 && fields[0] == 2049);
-        (number, angles)
-    };
-    assert!(compare_library(&sine, (1, COUNT), late).is_err());
-    let refused_with_an_angle = |fields: &Fields| match library(&sine, fields) {
-        (8, _) => (8, [0, 0, 0, 1]),
-        answer => answer,
-    };
-    assert!(compare_library(&sine, (1, COUNT), refused_with_an_angle).is_err());
+    let answers = batch_answers::<Q>(&sine, &random_batch::<Q>(&sine, 1, COUNT));
+    let counts = equal_outputs(&answers, &answers).unwrap();
+    assert_eq!(counts.all_reached(&outcomes_of_a_batch::<Q>(), LEAST), Ok(()));
+    assert_eq!(counts.total(), COUNT);
+}
+
+#[test]
+fn batches_reach_every_outcome() {
+    batch_reaches_every_outcome::<Shot>();
+    batch_reaches_every_outcome::<Pointing>();
+}
+
+#[test]
+fn vectors_that_differ_are_found() {
+    let sine = Sine::new();
+    let ways: [Way<Choice>; 1] = [("right", &|choice| Choice::as_library(choice.answer(&sine)))];
+    assert_eq!(compare_vectors("# two\n1 5 1 5 = 0 1 1\n0 1 5 = 16 1 0\n", &ways), Ok(2));
+    for file in ["1 5 1 5 = 0 2 1", "1 5 1 5 = 0 1 1 0", "1 5 1 5", "1 5 1 = 14 1 0"] {
+        assert!(compare_vectors(file, &ways).is_err());
+    }
 }
 
 /// The counts of this program's answers to random sessions.
@@ -51,7 +100,7 @@ fn sessions(sine: &Sine, seed: u64) -> Counts {
         session::run(sine, input.as_slice(), &mut output).unwrap();
         let one = equal_outputs(&output, &output).unwrap();
         assert_eq!(one.total(), lines);
-        counts.add(&one);
+        counts.add_all(&one);
     }
     counts
 }
@@ -61,22 +110,33 @@ fn sessions_reach_every_refusal() {
     let sine = Sine::new();
     for seed in 1..=4 {
         let counts = sessions(&sine, seed);
-        assert_eq!(counts.all_reached(&REFUSALS_OF_A_SESSION, 1), Ok(()), "seed {seed}");
-        assert!(counts.refusals[10] >= 100, "seed {seed}");
+        assert_eq!(counts.all_reached(&outcomes_of_sessions(), 1), Ok(()), "seed {seed}");
+        assert!(counts.of(Outcome::Refused(10)) >= 100, "seed {seed}");
         assert_eq!(counts.total(), COUNT);
     }
 }
 
 #[test]
-fn a_refusal_reached_too_rarely_is_found() {
-    let mut counts = Counts { answered: 100, refusals: [100; 15], others: 0 };
-    assert_eq!(counts.all_reached(&REFUSALS_OF_A_SESSION, 100), Ok(()));
-    assert!(counts.all_reached(&REFUSALS_OF_A_SESSION, 101).is_err());
-    counts.refusals[10] = 99;
-    assert!(counts.all_reached(&REFUSALS_OF_A_SESSION, 100).is_err());
-    assert_eq!(counts.all_reached(&REFUSALS_OF_A_SHOT, 100), Ok(()));
-    counts.answered = 99;
-    assert!(counts.all_reached(&REFUSALS_OF_A_SHOT, 100).is_err());
+fn an_outcome_reached_too_rarely_is_found() {
+    let expected = Choice::outcomes();
+    for &rare in &expected {
+        let mut counts = Counts::default();
+        for &outcome in &expected {
+            counts.add(outcome, if outcome == rare { 99 } else { 100 });
+        }
+        assert_eq!(counts.all_reached(&expected, 99), Ok(()));
+        assert!(counts.all_reached(&expected, 100).is_err());
+        assert!(counts.all_reached(&[Outcome::Answered], 1).is_err());
+        counts.add(rare, 1);
+        assert_eq!(counts.all_reached(&expected, 100), Ok(()));
+    }
+}
+
+#[test]
+fn lines_are_counted_by_their_form() {
+    let output = b"az 1 zd 2\nmark 3\nno 15\nno 1\nok\n5 0\nno 15\n";
+    let counts = equal_outputs(output, output).unwrap();
+    assert_eq!(counts.to_string(), "answered 2, no 1 1, no 15 2, others 2");
 }
 
 #[test]
@@ -90,7 +150,8 @@ fn outputs_that_differ_are_found() {
 #[test]
 fn equal_seeds_give_equal_input() {
     let sine = Sine::new();
-    assert_eq!(random_shots(&sine, 7, 100), random_shots(&sine, 7, 100));
-    assert_ne!(random_shots(&sine, 7, 100), random_shots(&sine, 8, 100));
+    let pointings = |seed| random_batch::<Pointing>(&sine, seed, 100);
+    assert_eq!(pointings(7), pointings(7));
+    assert_ne!(pointings(7), pointings(8));
     assert_eq!(random_lines(&sine, 7, 500), random_lines(&sine, 7, 500));
 }

@@ -1,5 +1,5 @@
-//! The declarations of `capi/fieldbook.h`. They are not public: a caller must not take a refused
-//! shot's zeros for angles.
+//! The declarations of `capi/fieldbook.h`. They are not public: a caller must not take what stands
+//! in a refused answer for an angle.
 
 /// `struct fieldbook_shot_answer`.
 #[repr(C)]
@@ -10,6 +10,23 @@ pub struct ShotAnswer {
     pub zenith_distance: u64,
     pub hour_angle: u64,
     pub longitude: u64,
+}
+
+/// `struct fieldbook_pointing_answer`.
+#[repr(C)]
+#[derive(Clone, Copy, Debug, PartialEq, Eq)]
+pub struct PointingAnswer {
+    pub refusal: u64,
+    pub mark: u64,
+}
+
+/// `struct fieldbook_choice_answer`.
+#[repr(C)]
+#[derive(Clone, Copy, Debug, PartialEq, Eq)]
+pub struct ChoiceAnswer {
+    pub refusal: u64,
+    pub list: u64,
+    pub count: u64,
 }
 
 extern "C" {
@@ -25,6 +42,27 @@ extern "C" {
         longitude: i64,
         body: i64,
     ) -> ShotAnswer;
+
+    fn fieldbook_pointing(
+        year: i64,
+        month: i64,
+        day: i64,
+        hour: i64,
+        minute: i64,
+        millisecond: i64,
+        dut1: i64,
+        latitude: i64,
+        longitude: i64,
+        body: i64,
+        angle: i64,
+    ) -> PointingAnswer;
+
+    fn fieldbook_choice(
+        first: *const i64,
+        first_count: usize,
+        second: *const i64,
+        second_count: usize,
+    ) -> ChoiceAnswer;
 }
 
 /// The shot as the static library answers it, with the fields in the card's order.
@@ -34,4 +72,31 @@ pub fn shot(fields: [i64; 10]) -> ShotAnswer {
     unsafe {
         fieldbook_shot(year, month, day, hour, minute, millisecond, dut1, latitude, longitude, body)
     }
+}
+
+/// The pointing as the static library answers it.
+pub fn pointing(fields: [i64; 10], angle: i64) -> PointingAnswer {
+    let [year, month, day, hour, minute, millisecond, dut1, latitude, longitude, body] = fields;
+    // SAFETY: the function is proved for all numbers and is lent no memory.
+    unsafe {
+        fieldbook_pointing(
+            year,
+            month,
+            day,
+            hour,
+            minute,
+            millisecond,
+            dut1,
+            latitude,
+            longitude,
+            body,
+            angle,
+        )
+    }
+}
+
+/// The choice as the static library answers it.
+pub fn choice(first: &[i64], second: &[i64]) -> ChoiceAnswer {
+    // SAFETY: the function is proved for all lists, only reads them, and keeps neither pointer.
+    unsafe { fieldbook_choice(first.as_ptr(), first.len(), second.as_ptr(), second.len()) }
 }

@@ -36,7 +36,7 @@ pub struct ShotAngles {
     pub longitude: u64,
 }
 
-/// Why a shot is refused; its number is the discriminant.
+/// Why there is no answer; its number is the discriminant.
 #[derive(Clone, Copy, Debug, PartialEq, Eq)]
 pub enum Refusal {
     NoDate = 2,
@@ -46,6 +46,8 @@ pub enum Refusal {
     NoBody = 6,
     BelowHorizon = 7,
     NearZenith = 8,
+    NoAngle = 15,
+    NoList = 16,
 }
 
 impl From<[i64; 10]> for Numbers {
@@ -75,23 +77,48 @@ impl Numbers {
     }
 }
 
+/// Ends with the refusal that an answer's number names, 0 for none.
+fn accepted(number: u64) -> Result<(), Refusal> {
+    Err(match number {
+        0 => return Ok(()),
+        2 => Refusal::NoDate,
+        3 => Refusal::NoTime,
+        4 => Refusal::NoDut1,
+        5 => Refusal::NoPosition,
+        6 => Refusal::NoBody,
+        7 => Refusal::BelowHorizon,
+        8 => Refusal::NearZenith,
+        15 => Refusal::NoAngle,
+        16 => Refusal::NoList,
+        _ => unreachable!("no call of this interface is refused by {number}"),
+    })
+}
+
 /// The shot: its angles, or why there are none.
 pub fn shot(numbers: &Numbers) -> Result<ShotAngles, Refusal> {
     let answer = ffi::shot(numbers.fields());
-    match answer.refusal {
-        0 => Ok(ShotAngles {
-            azimuth: answer.azimuth,
-            zenith_distance: answer.zenith_distance,
-            hour_angle: answer.hour_angle,
-            longitude: answer.longitude,
-        }),
-        2 => Err(Refusal::NoDate),
-        3 => Err(Refusal::NoTime),
-        4 => Err(Refusal::NoDut1),
-        5 => Err(Refusal::NoPosition),
-        6 => Err(Refusal::NoBody),
-        7 => Err(Refusal::BelowHorizon),
-        8 => Err(Refusal::NearZenith),
-        number => unreachable!("a shot with ten numbers is never refused by {number}"),
-    }
+    accepted(answer.refusal)?;
+    Ok(ShotAngles {
+        azimuth: answer.azimuth,
+        zenith_distance: answer.zenith_distance,
+        hour_angle: answer.hour_angle,
+        longitude: answer.longitude,
+    })
+}
+
+/// The pointing: the azimuth of a mark from north, clockwise, in units of 0.0001 second of arc, or
+/// why there is none. The horizontal angle is clockwise from the mark to the body, in the same
+/// units; any number may be given.
+pub fn pointing(numbers: &Numbers, angle: i64) -> Result<u64, Refusal> {
+    let answer = ffi::pointing(numbers.fields(), angle);
+    accepted(answer.refusal)?;
+    Ok(answer.mark)
+}
+
+/// The choice: of two lists of results, in units of 0.0001 second of arc, the one of smaller
+/// spread, itself and whole, the first on a tie; or why there is none. Any lists may be given.
+pub fn choose<'a>(first: &'a [i64], second: &'a [i64]) -> Result<&'a [i64], Refusal> {
+    let answer = ffi::choice(first, second);
+    accepted(answer.refusal)?;
+    Ok(if answer.list == 2 { second } else { first })
 }

@@ -1,7 +1,7 @@
 -- What an `i64` holds. A signed local holds bits, so a need has `toZ w64 (ofZ w64 z)` for each z that is read, which is z where z fits.
 use mathlib.Core.Path.{_≡_, refl, sym, subst}
 use mathlib.Core.Bool.{Bool, true, false, not, _&&_, true≢false}
-use Prim.Native.Nat.{ℕ, _^_, _≤_, _<_}
+use Prim.Native.Nat.{ℕ, _-_, _^_, _≤_, _<_}
 use native.Mathlib.Nat.{lt-of-le-of-lt, lt-of-lt-of-le}
 use native.Mathlib.Omega.{arith}
 use lib.Dec.{T, leb, ltb, leb→le}
@@ -12,6 +12,7 @@ use mir.Syntax.{w64}
 use mir.Val.{Fits, SFits, ofZ, toZ}
 use borrow.Author.Tests.{ltb-true, leb-true}
 use Rattle.exact.specs.Range.{between}
+use Rattle.exact.specs.Reduction.{turn, isReduced}
 use Rattle.exact.proofs.Differences.{split, zs, abs-dif}
 
 -- ---- what the machine reads back
@@ -78,7 +79,33 @@ pub between-high : (low z high : ℤ) → between low z high ≡ true → z ≤�
 unfolding between
 between-high low z high e = is-le (and-true (leZ low z) (leZ z high) e .1)
 
+both : (p q : Bool) → T p → T q → (p && q) ≡ true
+both true true t u = refl
+both true false t u = absurd u
+both false q t u = absurd t
+
+pub between-yes : (low z high : ℤ) → low ≤ℤ z → z ≤ℤ high → between low z high ≡ true
+unfolding between
+between-yes low z high p q = both (leZ low z) (leZ z high) (p .le) (q .le)
+
 -- where it starts at a natural number, so is what lies in it
 pub between-nat : (l h : ℕ) (z : ℤ) → between (pos l) z (pos h) ≡ true → (z ≡ pos (natAbs z)) × (l ≤ natAbs z) × (natAbs z ≤ h)
 between-nat l h (pos n) e = (refl, leb→le l n (between-low (pos l) (pos n) (pos h) e .le), leb→le n h (between-high (pos l) (pos n) (pos h) e .le))
 between-nat l h (negsuc n) e = absurd (between-low (pos l) (negsuc n) (pos h) e .le)
+
+-- ---- reduced angles
+pub nat-reduced : (n : ℕ) → n < turn → isReduced (pos n) ≡ true
+nat-reduced n h = between-yes (pos 0) (pos n) (pos (turn - 1)) (low n) (high n h)
+  where
+    low : (n : ℕ) → pos 0 ≤ℤ pos n
+    low n = simp zs (omega arith)
+
+    high : (n : ℕ) → n < turn → pos n ≤ℤ pos (turn - 1)
+    high n = simp zs (omega arith)
+
+-- they differ by less than a turn
+pub reduced-apart : (a b : ℤ) → isReduced a ≡ true → isReduced b ≡ true → natAbs (a -ℤ b) < turn
+reduced-apart a b p q = go a b (between-low _ _ _ p) (between-high _ _ _ p) (between-low _ _ _ q) (between-high _ _ _ q)
+  where
+    go : (a b : ℤ) → pos 0 ≤ℤ a → a ≤ℤ pos (turn - 1) → pos 0 ≤ℤ b → b ≤ℤ pos (turn - 1) → natAbs (a -ℤ b) < turn
+    go a b = rw (split a, split b) (simp zs (omega arith))

@@ -1,7 +1,9 @@
 -- Document 01, "Units and rounding" (RULES.md, "Units"): angles, in units of 0.0001″, and their reduction to a turn.
+use mathlib.Core.Bool.{Bool}
 use Prim.Native.Nat.{ℕ, _-_, min, max}
 use lib.IntN.{ℤ, pos, natAbs, _-ℤ_, _*ℤ_}
 use Rattle.exact.specs.Division.{floorDiv}
+use Rattle.exact.specs.Range.{between}
 
 -- 01's Q: a quadrant, 90°
 abbrev pub Q : ℕ
@@ -16,6 +18,9 @@ unfoldable pub rest : ℤ → ℕ → ℕ
 rest z d = natAbs (z -ℤ pos d *ℤ floorDiv z d)
 
 -- 01's reduced: 0 to turn − 1
+abbrev pub isReduced : ℤ → Bool
+isReduced z = between (pos 0) z (pos (turn - 1))
+
 unfoldable pub reduced : ℤ → ℕ
 reduced z = rest z turn
 

@@ -5,7 +5,7 @@ ghost use Prim.Native.Nat.{_+_, _*_, _<_, _≤_, _^_};
 ghost use lib.IntN.{pos, natAbs, _*ℤ_};
 ghost use lib.Signed.{_<ℤ_};
 ghost use Rattle.exact.specs.Division.{floorDiv, nearestDiv};
-ghost use Rattle.exact.specs.Reduction.{turn, reduced};
+ghost use Rattle.exact.specs.Reduction.{turn, isReduced, reduced};
 ghost use Rattle.exact.specs.Century.{century};
 ghost use Rattle.exact.specs.Largest.{root};
 ghost use Rattle.exact.specs.Range.{between};
@@ -56,6 +56,13 @@ pub fn nearest_div(a: i64, d: i64) -> i64
     ensures { λ r. ⌜ r ≡ nearestDiv a (natAbs d) ⌝ }
 {
     floor_div(a + d / 2, d)
+}
+
+// Whether an angle is reduced: 0 to a turn less one unit.
+pub fn is_reduced(a: i64) -> bool
+    ensures { λ r. ⌜ r ≡ isReduced a ⌝ }
+{
+    between(0, a, TURN - 1)
 }
 
 // The angle a in one turn.

@@ -12,13 +12,15 @@ use site::Located;
 use site::Position;
 use site::Site;
 ghost use mathlib.Core.Path.{_≡_};
-ghost use Prim.Native.Nat.{_<_};
+ghost use Prim.Native.Nat.{_<_, _≤_};
+ghost use lib.ListN.{length};
 ghost use Rattle.exact.specs.Reduction.{turn};
 ghost use Rattle.sine.specs.Sine.{entries};
 ghost use Rattle.epoch.specs.Sizes.{InSpan};
 ghost use Rattle.site.specs.Sizes.{PositionSized};
 ghost use Rattle.horizon.specs.Horizon.{View, sightOf, sightValues};
 ghost use Rattle.horizon.specs.Sizes.{SightReduced};
+ghost use Rattle.card.specs.Fields.{fieldCount};
 ghost use Rattle.fieldbook.specs.Shot.{numbersOf, shotValues, ShotReduced, shot, shotFromCard};
 ghost use Rattle.fieldbook.specs.Parts.{sightedShot, sunShot, polarisShot, shotFrom, shotAt};
 ghost use Rattle.fieldbook.specs.Astrometry.{IsAstrometry};
@@ -59,9 +61,10 @@ struct Astrometry {
     sidereal: u64,
 }
 
-// The numbers of the fields, in the order of the card.
-pub fn numbers_of(fields: [i64; card::FIELDS]) -> Numbers
-    ensures { λ r. ⌜ r ≡ numbersOf fields ⌝ }
+// The numbers of the fields, in the order of the card, which stand first in the list.
+pub fn numbers_of(fields: &[i64]) -> Numbers
+    requires { ⌜ fieldCount ≤ length (now fields) ⌝ }
+    ensures { λ r. ⌜ r ≡ numbersOf (now (fields .entry)) ⌝ }
 {
     Numbers {
         time: CivilTime {
@@ -204,7 +207,7 @@ pub fn shot_from_card_with(t: &SineTable, card: Card) -> CardShot
     let confirmed = card::confirmed_numbers(card);
     let verdict = confirmed.verdict;
     let fields = confirmed.numbers;
-    let numbers = numbers_of(fields);
+    let numbers = numbers_of(&fields);
     match verdict {
         Verdict::Accepted => with_card(shot_with(t, numbers), card),
         Verdict::Refused(refusal) => with_card(Outcome::Refused(refusal), card),

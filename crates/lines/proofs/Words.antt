@@ -60,7 +60,7 @@ unfolding words indexOf
 no-more-words [] h = refl
 no-more-words (c ∷ l) h = last-by (eqb c 32) c (indexOf 32 l) l h (first-word l) (no-more-words l)
 
--- the numbers of a line behind the first n of an array of ten, by its first word
+-- the numbers of a line behind the first n of a row's array, by its first word
 module _ (a : List ℤ) (full : length a ≡ rowLength) (n most : ℕ) (l : List ℕ) where
   pub no-number : NoNumber ≡ numeralOf most (take (indexOf 32 l) l) → [] ≡ numbersBehind (take n a) most (words l)
   unfolding numbersBehind

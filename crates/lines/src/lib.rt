@@ -1,14 +1,14 @@
 // The bytes of a line: where it ends, its numbers, and the numbers and words of an answer.
 ghost use mathlib.Core.Path.{_≡_};
 ghost use mathlib.Core.List.{[]};
-ghost use Prim.Native.Nat.{_+_, _%_, _^_, _≤_};
+ghost use Prim.Native.Nat.{_+_, _^_, _≤_};
 ghost use lib.ListN.{length};
-ghost use Rattle.lines.specs.Numerals.{digitsOf, numeralOf, numbersOf, listed};
+ghost use Rattle.lines.specs.Numerals.{digitsOf, numeralOf, rowLength, numbersOf, listed};
 ghost use Rattle.lines.specs.Sizes.{Below};
 ghost use Rattle.lines.specs.Appending.{decimalText, Appends};
 
-// The most numbers that a line of any program has.
-const ROW: usize = 10;
+// The most numbers that a line of any program has: a pointing's ten fields and its horizontal angle.
+pub const ROW: usize = 11;
 
 // The most digits of a number of 64 bits.
 const DIGITS: usize = 20;
@@ -87,6 +87,7 @@ fn numeral_of(s: &[u8], most: usize) -> Numeral
 
 fn empty_row() -> Row
     ensures { λ r. ⌜ listed r ≡ [] ⌝ }
+    ensures { λ r. ⌜ r .count ≤ rowLength ⌝ }
 {
     Row {
         numbers: [0i64; ROW],
@@ -98,6 +99,7 @@ fn empty_row() -> Row
 pub fn numbers_of(s: &[u8], most: usize) -> Row
     requires { ⌜ most ≤ 18 ⌝ }
     ensures { λ r. ⌜ listed r ≡ numbersOf most (now (s .entry)) ⌝ }
+    ensures { λ r. ⌜ r .count ≤ rowLength ⌝ }
 {
     let mut row = empty_row();
     let mut from = 0;

@@ -1,8 +1,8 @@
--- Document 01, "Refusal numbers" (RULES.md, "Refusals"): the number of each of the code's refusals. Above this file, specs/ speak of the numbers alone; 0
+-- Document 01, "Refusal numbers", and document 02 (RULES.md, "Refusals"): the number of each of the code's refusals. Above this file, specs/ speak of the numbers alone; 0
 -- stands for no refusal.
 use Prim.Native.Nat.{ℕ}
 use Rattle.refusal.specs.declared.Refusal.{Refusal}
-use Rattle.refusal.specs.declared.Refusal.the-variants.{NotConfirmed, NoDate, NoTime, NoDut1, NoPosition, NoBody, BelowHorizon, NearZenith, NoField, EmptyField, NoRoom, NotRead, TooLarge, Malformed}
+use Rattle.refusal.specs.declared.Refusal.the-variants.{NotConfirmed, NoDate, NoTime, NoDut1, NoPosition, NoBody, BelowHorizon, NearZenith, NoField, EmptyField, NoRoom, NotRead, TooLarge, Malformed, NoAngle, NoList}
 use Rattle.refusal.specs.declared.Verdict.{Verdict}
 use Rattle.refusal.specs.declared.Verdict.the-variants.{Accepted, Refused}
 
@@ -21,10 +21,12 @@ numberOf NoRoom = 11
 numberOf NotRead = 12
 numberOf TooLarge = 13
 numberOf Malformed = 14
+numberOf NoAngle = 15
+numberOf NoList = 16
 
 -- the largest of them
 abbrev pub largestNumber : ℕ
-largestNumber = 14
+largestNumber = 16
 
 abbrev pub verdictNumber : Verdict → ℕ
 verdictNumber Accepted = 0

@@ -1,9 +1,9 @@
-// The refusals of the whole book: document 01, "Refusal numbers".
+// The refusals of the whole book: document 01, "Refusal numbers", and those that document 02 adds.
 ghost use mathlib.Core.Path.{_≡_};
 ghost use Prim.Native.Nat.{_≤_};
 ghost use Rattle.refusal.specs.RefusalNumbers.{numberOf, largestNumber};
 
-// Why a call is refused, in the order of document 01's numbers, 1 to 14.
+// Why a call is refused, in the order of the numbers: 1 to 14 of document 01, 15 and 16 of document 02.
 pub enum Refusal {
     // 1: a shot from a card on which some field is not confirmed.
     NotConfirmed,
@@ -33,6 +33,10 @@ pub enum Refusal {
     TooLarge,
     // 14: a program's line that is not of its form.
     Malformed,
+    // 15: an angle that is not 0 to a turn less one unit.
+    NoAngle,
+    // 16: a list of results that is empty or too long.
+    NoList,
 }
 
 // What a call that gives nothing but a refusal answers.
@@ -41,7 +45,7 @@ pub enum Verdict {
     Refused(Refusal),
 }
 
-// Document 01's number of a refusal.
+// The number of a refusal.
 pub fn number_of(refusal: Refusal) -> u64
     ensures { λ r. ⌜ (r ≡ numberOf refusal) × (r ≤ largestNumber) ⌝ }
 {
@@ -60,5 +64,7 @@ pub fn number_of(refusal: Refusal) -> u64
         Refusal::NotRead => 12,
         Refusal::TooLarge => 13,
         Refusal::Malformed => 14,
+        Refusal::NoAngle => 15,
+        Refusal::NoList => 16,
     }
 }

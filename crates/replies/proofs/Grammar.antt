@@ -5,19 +5,26 @@ use Prim.Native.Nat.{ℕ, _<_, _≤_}
 use native.Mathlib.Omega.{arith}
 use lib.IntN.{ℤ, pos}
 use lib.ListN.{length, take, drop, getD, length-take}
-use lib.Seq.{take-all, getD-take}
+use lib.Seq.{getD-take}
 use borrow.Author.Tests.{eq-eqb, ne-eqb}
 use Rattle.exact.specs.Nth.{nth}
-use Rattle.card.specs.Fields.{fieldCount}
-use Rattle.fieldbook.specs.Shot as Book
-use Rattle.fieldbook.specs.Shot.{shot}
 use Rattle.lines.specs.Numerals.{numbersOf, rowLength}
 use Rattle.replies.specs.Commands.{fieldCommand, letterCommand, sessionCommand}
-use Rattle.replies.specs.Answers.{refusalText, shotText, batchText}
+use Rattle.replies.specs.Answers.{refusalText, numbersAsked, askedText, batchText}
 use Rattle.replies.specs.declared.Command.the-variants.{Hear, Shoot, Malformed}
-use Rattle.replies.specs.declared.Protocol.the-variants.{Batch}
+use Rattle.replies.specs.declared.Question.{Question}
+use Rattle.replies.specs.declared.Question.the-variants.{Shot, Pointing}
 
--- by the first n numbers of an array of ten
+-- a question takes some numbers, and no more than a row has
+pub asked-some : (q : Question) → 0 < numbersAsked q
+asked-some Shot = omega arith
+asked-some Pointing = omega arith
+
+pub asked-few : (q : Question) → numbersAsked q ≤ rowLength
+asked-few Shot = omega arith
+asked-few Pointing = omega arith
+
+-- by the first n numbers of a row's array
 module _ (a : List ℤ) (full : length a ≡ rowLength) (n : ℕ) where
   module _ (c : ℕ) (h : c ≡ 72) where
     pub hears : n ≡ 2 → Hear (nth a 0) (nth a 1) ≡ letterCommand c (take n a)
@@ -37,11 +44,12 @@ module _ (a : List ℤ) (full : length a ≡ rowLength) (n : ℕ) where
     pub names-none : (n ≡ 1 → ⊥) → Malformed ≡ letterCommand c (take n a)
     names-none d = let l = length-take n a in rw (ne-eqb c 72 h, ne-eqb (length (take n a)) 1 λ e. d (omega arith))
 
-  pub shoots : fieldCount ≤ n → shotText Batch (shot (Book.numbersOf a)) ≡ batchText (take n a)
-  shoots h = rw (take-all n a (omega arith), eq-eqb (length a) fieldCount full)
+  module _ (q : Question) where
+    pub asks : n ≡ numbersAsked q → askedText q (take (numbersAsked q) a) ≡ batchText q (take n a)
+    asks e = let l = length-take (numbersAsked q) a in let f = asked-few q in rw (e, eq-eqb (length (take (numbersAsked q) a)) (numbersAsked q) (omega arith))
 
-  pub shoots-not : n < fieldCount → refusalText 14 ≡ batchText (take n a)
-  shoots-not h = let l = length-take n a in rw (ne-eqb (length (take n a)) fieldCount λ e. omega arith)
+    pub asks-not : n ≤ rowLength → (n ≡ numbersAsked q → ⊥) → refusalText 14 ≡ batchText q (take n a)
+    asks-not h d = let l = length-take n a in rw (ne-eqb (length (take n a)) (numbersAsked q) λ e. d (omega arith))
 
 -- by the first two bytes
 pub no-bytes : (l : List ℕ) → length l ≡ 0 → Malformed ≡ sessionCommand l

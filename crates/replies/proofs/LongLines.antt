@@ -1,4 +1,4 @@
--- A line longer than 199 bytes is malformed, whatever it holds; so the first 200 bytes of a line are answered as the whole line is.
+-- A line longer than 219 bytes is malformed in every program, whatever it holds; so the first 220 bytes of a line are answered as the whole line is.
 use mathlib.Core.Path.{_≡_, refl, sym, ap, _∙_}
 use mathlib.Core.Bool.{Bool, true, false, cond}
 use mathlib.Core.Logic.{_⊎_, inl, inr, ⊎-elim}
@@ -11,7 +11,6 @@ use lib.IntN.{ℤ}
 use lib.ListN.{length, take, length-append}
 use lib.Seq.{take-all, length-take-le}
 use borrow.Author.Tests.{le-ltb, lt-ltb, ne-eqb, leb-true, leb-false}
-use Rattle.card.specs.Fields.{fieldCount}
 use Rattle.card.specs.declared.Card.{Card}
 use Rattle.lines.specs.Numerals.{digitsOf, plus, minus, numeralOf, prefixed, words, rowLength, ifNumber, numbersBehind, numbersOf}
 use Rattle.lines.specs.declared.Digits.the-variants.{Other}
@@ -19,11 +18,13 @@ use Rattle.lines.specs.declared.Numeral.{Numeral}
 use Rattle.lines.specs.declared.Numeral.the-variants.{Number, NoNumber}
 use Rattle.lines.proofs.Words.{first-word}
 use Rattle.replies.specs.Commands.{letterCommand, sessionCommand, longestLine}
-use Rattle.replies.specs.Answers.{refusalText, commandText, commandCard, batchReply, reply, next}
+use Rattle.replies.specs.Answers.{refusalText, commandText, commandCard, numbersAsked, batchReply, reply, next}
 use Rattle.replies.specs.declared.Command.{Command}
+use Rattle.replies.specs.declared.Command.the-variants.{Malformed}
 use Rattle.replies.specs.declared.Protocol.{Protocol}
 use Rattle.replies.specs.declared.Protocol.the-variants.{Session, Batch}
-use Rattle.replies.specs.declared.Command.the-variants.{Malformed}
+use Rattle.replies.specs.declared.Question.{Question}
+use Rattle.replies.proofs.Grammar.{asked-some, asked-few}
 
 same : {A : Type 0} (b : Bool) {x y z : A} → x ≡ z → y ≡ z → cond b x y ≡ z
 same true p q = p
@@ -112,11 +113,13 @@ long-session [] h = refl
 long-session (c ∷ []) h = absurd (omega arith)
 long-session (c ∷ s ∷ l) h = same (eqb s 32) (long-letter c l (omega arith)) refl
 
-long-batch : (l : List ℕ) → longestLine < length l → batchReply l ≡ refusalText 14 ++ (10 ∷ [])
+long-batch : (q : Question) (l : List ℕ) → longestLine < length l → batchReply q l ≡ refusalText 14 ++ (10 ∷ [])
 unfolding batchReply
-long-batch l h = rw (ne-eqb (length (numbersOf 18 l)) fieldCount (not-so-many 18 fieldCount l (omega arith) (omega arith)))
+long-batch q l h =
+    let f = asked-few q in
+    rw (ne-eqb (length (numbersOf 18 l)) (numbersAsked q) (not-so-many 18 (numbersAsked q) l (asked-some q) (omega arith)))
 
--- what is the same for all long lines, the first 200 bytes tell
+-- what is the same for all long lines, the first 220 bytes tell
 told-by-first : {A : Type 0} (f : List ℕ → A) (a : A) → ((l : List ℕ) → longestLine < length l → f l ≡ a)
     → (l : List ℕ) → f (take (suc longestLine) l) ≡ f l
 told-by-first f a long l = by-order (length l) (suc longestLine) (λ h. ap f (take-all (suc longestLine) l h)) λ h.
@@ -130,4 +133,4 @@ pub first-bytes : (p : Protocol) (c : Card) (l : List ℕ)
     → (reply p c (take (suc longestLine) l) ≡ reply p c l) × (next p c (take (suc longestLine) l) ≡ next p c l)
 unfolding reply next
 first-bytes Session c l = (ap (λ (a : Command). commandText a c ++ (10 ∷ [])) (first-asks l), ap (λ (a : Command). commandCard a c) (first-asks l))
-first-bytes Batch c l = (told-by-first batchReply (refusalText 14 ++ (10 ∷ [])) long-batch l, refl)
+first-bytes (Batch q) c l = (told-by-first (batchReply q) (refusalText 14 ++ (10 ∷ [])) (long-batch q) l, refl)

@@ -1,4 +1,4 @@
--- The session never gives refusal 11, whatever the lines are and whatever the card holds: no line of either program is answered `no 11`.
+-- No program ever gives refusal 11, whatever the lines are and whatever the card holds: no line of any program is answered `no 11`.
 use mathlib.Core.Path.{_≡_, refl, ap}
 use mathlib.Core.Bool.{Bool, true, false, cond}
 use mathlib.Core.Logic.{_≢_}
@@ -10,22 +10,26 @@ use lib.ListN.{length, getD}
 use borrow.Author.Tests.{eqb-false}
 use Rattle.refusal.proofs.Decisions.{Each, holds-decided}
 use Rattle.digits.specs.Text.{decimalIn, decimal, spaced, digits, text}
-use Rattle.card.specs.Fields.{numberIn, fieldCount, slotIndex, fieldOf, put}
+use Rattle.card.specs.Fields.{numberIn, slotIndex, fieldOf, put}
 use Rattle.card.specs.Confirmed.{cardTests}
 use Rattle.card.specs.Calls as Calls
 use Rattle.card.specs.Calls.{CardValues, accepted, hearTests, hear, confirmTests, confirm, heldTests}
 use Rattle.card.specs.declared.Card.{Card}
 use Rattle.card.specs.declared.Field.the-variants.{Heard, Confirmed}
-use Rattle.fieldbook.specs.Shot.{ShotValues, refused, tests, answerOf, shot, cardNumbers, shotFromCard}
+use Rattle.fieldbook.specs.Shot.{refused, tests, answerOf, shot, cardNumbers, shotFromCard}
 use Rattle.fieldbook.specs.declared.Numbers.{Numbers}
-use Rattle.lines.specs.Numerals as Lines
+use Rattle.pointing.specs.Pointing as Mark
+use Rattle.pointing.specs.Pointing.{pointingTests, pointed, pointing}
+use Rattle.lines.specs.Numerals.{numbersOf}
 use Rattle.lines.specs.Appending.{decimalText}
 use Rattle.replies.specs.Commands.{sessionCommand}
-use Rattle.replies.specs.Answers.{refusalText, verdictText, readText, shotText, commandText, batchReply, reply}
+use Rattle.replies.specs.Answers.{refusalText, verdictText, readText, shotText, markText, commandText, numbersAsked, askedText, batchReply, reply}
 use Rattle.replies.specs.declared.Command.{Command}
 use Rattle.replies.specs.declared.Command.the-variants.{Hear, Read, Confirm, Shoot, Malformed}
 use Rattle.replies.specs.declared.Protocol.{Protocol}
 use Rattle.replies.specs.declared.Protocol.the-variants.{Session, Batch}
+use Rattle.replies.specs.declared.Question.{Question}
+use Rattle.replies.specs.declared.Question.the-variants.{Shot, Pointing}
 
 abbrev NotEleven : List ℕ → Type 0
 NotEleven t = t ++ (10 ∷ []) ≢ refusalText 11 ++ (10 ∷ [])
@@ -74,24 +78,35 @@ module _ (c : Card) (f : ℤ) where
   unfolding readText decimalText decimal decimalIn
   read-is-not = holds-decided NotEleven (heldTests c f) (text (numberIn (fieldOf c f))) refusalText (text-is-not (numberIn (fieldOf c f))) (tell 9 refl, (tell 10 refl, tt))
 
--- a shot of either program, by its tests
-module _ (p : Protocol) (x : Numbers) where
-  abbrev Shot : ShotValues → Type 0
-  Shot v = NotEleven (shotText p v)
-
-  tests-are-not : Each (λ k. Shot (refused k)) (tests x)
-  unfolding decimalText decimal decimalIn
-  tests-are-not = (tell 2 refl, (tell 3 refl, (tell 4 refl, (tell 5 refl, (tell 6 refl, (tell 7 refl, (tell 8 refl, tt)))))))
+-- a shot and its pointing, by the shot's tests
+tests-are-not : (x : Numbers) → Each (λ k. NotEleven (refusalText k)) (tests x)
+unfolding decimalText decimal decimalIn
+tests-are-not x = (tell 2 refl, (tell 3 refl, (tell 4 refl, (tell 5 refl, (tell 6 refl, (tell 7 refl, (tell 8 refl, tt)))))))
 
 card-shot-is-not : (c : Card) → NotEleven (shotText Session (shotFromCard c))
 unfolding shotFromCard decimalText decimal decimalIn
 card-shot-is-not c =
     let x = cardNumbers c in
-    holds-decided (Shot Session x) (cardTests c ++ tests x) (answerOf x) refused (differs 0 (shotText Session (answerOf x)) refl) (tell 1 refl, tests-are-not Session x)
+    holds-decided (λ v. NotEleven (shotText Session v)) (cardTests c ++ tests x) (answerOf x) refused (differs 0 (shotText Session (answerOf x)) refl) (tell 1 refl, tests-are-not x)
 
-shot-is-not : (x : Numbers) → NotEleven (shotText Batch (shot x))
-unfolding shot decimalText decimal decimalIn
-shot-is-not x = holds-decided (Shot Batch x) (tests x) (answerOf x) refused (differs 0 (shotText Batch (answerOf x)) refl) (tests-are-not Batch x)
+module _ (x : Numbers) where
+  shot-is-not : NotEleven (shotText (Batch Shot) (shot x))
+  unfolding shot decimalText decimal decimalIn
+  shot-is-not =
+      let p = Batch Shot in
+      holds-decided (λ v. NotEleven (shotText p v)) (tests x) (answerOf x) refused (differs 0 (shotText p (answerOf x)) refl) (tests-are-not x)
+
+  -- a pointing that its shot refuses. (the number of an answered shot is 0, which would read `mark 0`)
+  refused-mark-is-not : NotEleven (markText (Mark.refused (shot x .refusal)))
+  unfolding shot decimalText decimal decimalIn
+  refused-mark-is-not =
+      holds-decided (λ v. NotEleven (markText (Mark.refused (v .refusal)))) (tests x) (answerOf x) refused (differs 0 (markText (Mark.refused 0)) refl) (tests-are-not x)
+
+  mark-is-not : (angle : ℤ) → NotEleven (markText (pointing x angle))
+  unfolding pointed decimalText decimal decimalIn
+  mark-is-not angle =
+      let v = Mark.answered (Mark.markAzimuth (shot x .azimuth) angle) in
+      holds-decided (λ a. NotEleven (markText a)) (pointingTests (shot x) angle) v Mark.refused (differs 0 (markText v) refl) (refused-mark-is-not, (tell 15 refl, tt))
 
 command-is-not : (a : Command) (c : Card) → NotEleven (commandText a c)
 unfolding decimalText decimal decimalIn
@@ -101,13 +116,17 @@ command-is-not (Confirm f) c = confirm-is-not c f
 command-is-not Shoot c = card-shot-is-not c
 command-is-not Malformed c = tell 14 refl
 
--- (b: whether there is a number for each field)
-batch-is-not : (b : Bool) (x : Numbers) → NotEleven (cond b (shotText Batch (shot x)) (refusalText 14))
+asked-is-not : (q : Question) (l : List ℤ) → NotEleven (askedText q l)
+asked-is-not Shot l = shot-is-not _
+asked-is-not Pointing l = mark-is-not _ _
+
+-- (b: whether there are as many numbers as the question takes)
+batch-is-not : (b : Bool) (q : Question) (l : List ℤ) → NotEleven (cond b (askedText q l) (refusalText 14))
 unfolding decimalText decimal decimalIn
-batch-is-not true x = shot-is-not x
-batch-is-not false x = tell 14 refl
+batch-is-not true q l = asked-is-not q l
+batch-is-not false q l = tell 14 refl
 
 pub never-eleven : (p : Protocol) (c : Card) (l : List ℕ) → reply p c l ≢ refusalText 11 ++ (10 ∷ [])
 unfolding reply batchReply
 never-eleven Session c l = command-is-not (sessionCommand l) c
-never-eleven Batch c l = batch-is-not (eqb (length (Lines.numbersOf 18 l)) fieldCount) _
+never-eleven (Batch q) c l = batch-is-not (eqb (length (numbersOf 18 l)) (numbersAsked q)) q (numbersOf 18 l)

@@ -1,18 +1,20 @@
--- Document 01, "One session, whole" (RULES.md, "Lines"): what a line is answered, and the card after it. An answer is a line of ASCII bytes that ends
--- in a newline.
+-- Document 01, "One session, whole", and document 02, request 1 (RULES.md, "Lines"): what a line is answered, and the card after it. An answer is a
+-- line of ASCII bytes that ends in a newline.
 use mathlib.Core.Bool.{cond}
 use mathlib.Core.List.{List, [], _∷_, _++_}
-use Prim.Native.Nat.{ℕ}
+use Prim.Native.Nat.{ℕ, suc}
 use lib.Dec.{eqb}
 use lib.IntN.{ℤ}
 use lib.ListN.{length}
 use Rattle.refusal.specs.Tests.{decided}
+use Rattle.exact.specs.Nth.{nth}
 use Rattle.digits.specs.Text.{text}
 use Rattle.card.specs.Fields.{numberIn, fieldCount, fieldOf}
 use Rattle.card.specs.Calls.{hear, confirm, heldTests, readCard}
 use Rattle.card.specs.declared.Card.{Card}
 use Rattle.fieldbook.specs.Shot as Book
 use Rattle.fieldbook.specs.Shot.{ShotValues, shot, shotFromCard}
+use Rattle.pointing.specs.Pointing.{PointingValues, pointing}
 use Rattle.lines.specs.Numerals.{numbersOf}
 use Rattle.lines.specs.Appending.{decimalText}
 use Rattle.replies.specs.Commands.{sessionCommand}
@@ -20,6 +22,8 @@ use Rattle.replies.specs.declared.Command.{Command}
 use Rattle.replies.specs.declared.Command.the-variants.{Hear, Read, Confirm, Shoot, Malformed}
 use Rattle.replies.specs.declared.Protocol.{Protocol}
 use Rattle.replies.specs.declared.Protocol.the-variants.{Session, Batch}
+use Rattle.replies.specs.declared.Question.{Question}
+use Rattle.replies.specs.declared.Question.the-variants.{Shot, Pointing}
 
 -- a label and a number in plain decimal
 abbrev pub labelledText : List ℕ → ℕ → List ℕ
@@ -51,17 +55,33 @@ cardRead c f = decided (heldTests c f) (readCard c f) (λ k. c)
 abbrev pub directionText : ShotValues → List ℕ
 directionText v = pairText (97 ∷ 122 ∷ 32 ∷ []) (v .azimuth) (32 ∷ 122 ∷ 100 ∷ 32 ∷ []) (v .zenithDistance)
 
--- and in the batch ` ha H s S` behind it
+-- and in a batch ` ha H s S` behind it
 abbrev pub anglesText : Protocol → ShotValues → List ℕ
 anglesText Session v = directionText v
-anglesText Batch v = directionText v ++ pairText (32 ∷ 104 ∷ 97 ∷ 32 ∷ []) (v .hourAngle) (32 ∷ 115 ∷ 32 ∷ []) (v .longitude)
+anglesText (Batch q) v = directionText v ++ pairText (32 ∷ 104 ∷ 97 ∷ 32 ∷ []) (v .hourAngle) (32 ∷ 115 ∷ 32 ∷ []) (v .longitude)
 
 abbrev pub shotText : Protocol → ShotValues → List ℕ
 shotText p v = cond (eqb (v .refusal) 0) (anglesText p v) (refusalText (v .refusal))
 
--- of the numbers of a line: one for each field, in the order of the card, is a shot
-abbrev pub batchText : List ℤ → List ℕ
-batchText l = cond (eqb (length l) fieldCount) (shotText Batch (shot (Book.numbersOf l))) (refusalText 14)
+-- ---- a pointing
+-- `mark M`, in units of 0.0001″
+abbrev pub markText : PointingValues → List ℕ
+markText v = cond (eqb (v .refusal) 0) (labelledText (109 ∷ 97 ∷ 114 ∷ 107 ∷ 32 ∷ []) (v .mark)) (refusalText (v .refusal))
+
+-- ---- the numbers of a line of a batch
+-- how many the question takes: a shot one for each field, in the order of the card, and a pointing the horizontal angle behind them
+abbrev pub numbersAsked : Question → ℕ
+numbersAsked Shot = fieldCount
+numbersAsked Pointing = suc fieldCount
+
+-- what so many are answered
+abbrev pub askedText : Question → List ℤ → List ℕ
+askedText Shot l = shotText (Batch Shot) (shot (Book.numbersOf l))
+askedText Pointing l = markText (pointing (Book.numbersOf l) (nth l fieldCount))
+
+-- and what any are: where there are more or fewer, the line is malformed
+abbrev pub batchText : Question → List ℤ → List ℕ
+batchText q l = cond (eqb (length l) (numbersAsked q)) (askedText q l) (refusalText 14)
 
 -- ---- a command
 -- its answer, and the card afterwards
@@ -80,15 +100,15 @@ commandCard Shoot c = c
 commandCard Malformed c = c
 
 -- ---- a line
--- of the batch, of numbers of 1 to 18 digits: its answer with the newline
-unfoldable pub batchReply : List ℕ → List ℕ
-batchReply l = batchText (numbersOf 18 l) ++ (10 ∷ [])
+-- of a batch, of numbers of 1 to 18 digits: its answer with the newline
+unfoldable pub batchReply : Question → List ℕ → List ℕ
+batchReply q l = batchText q (numbersOf 18 l) ++ (10 ∷ [])
 
--- of a program: its answer with the newline, and the card afterwards, which the batch does not touch
+-- of a program: its answer with the newline, and the card afterwards, which no batch touches
 unfoldable pub reply : Protocol → Card → List ℕ → List ℕ
 reply Session c l = commandText (sessionCommand l) c ++ (10 ∷ [])
-reply Batch c l = batchReply l
+reply (Batch q) c l = batchReply q l
 
 unfoldable pub next : Protocol → Card → List ℕ → Card
 next Session c l = commandCard (sessionCommand l) c
-next Batch c l = c
+next (Batch q) c l = c

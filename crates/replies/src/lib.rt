@@ -1,9 +1,10 @@
-// The line protocols of the two programs: what a line asks, and what it is answered.
+// The line protocols of the programs: what a line asks, and what it is answered.
 use card::Card;
 use card::CardAnswer;
 use card::Reading;
 use fieldbook::Outcome;
 use lines::Row;
+use pointing::Mark;
 use refusal::Refusal;
 use refusal::Verdict;
 use sine::SineTable;
@@ -14,14 +15,15 @@ ghost use Rattle.refusal.specs.RefusalNumbers.{numberOf, verdictNumber};
 ghost use Rattle.sine.specs.Sine.{entries};
 ghost use Rattle.card.specs.Calls as Calls;
 ghost use Rattle.fieldbook.specs.Shot.{shotValues};
-ghost use Rattle.lines.specs.Numerals.{listed};
+ghost use Rattle.pointing.specs.Pointing.{pointingValues};
+ghost use Rattle.lines.specs.Numerals.{rowLength, listed};
 ghost use Rattle.lines.specs.Appending.{Appends};
 ghost use Rattle.replies.specs.Commands.{fieldCommand, letterCommand, sessionCommand};
 ghost use Rattle.replies.specs.Sizes.{longest};
-ghost use Rattle.replies.specs.Answers.{labelledText, pairText, refusalText, verdictText, readText, cardRead, shotText, batchText, commandText, commandCard, batchReply, reply, next};
+ghost use Rattle.replies.specs.Answers.{labelledText, pairText, refusalText, verdictText, readText, cardRead, shotText, markText, numbersAsked, batchText, commandText, commandCard, batchReply, reply, next};
 ghost use Rattle.replies.specs.declared.Protocol.the-variants.{Session};
 
-// The most digits of a number in a line of the session, and of the batch.
+// The most digits of a number in a line of the session, and of a batch.
 const SESSION_DIGITS: usize = 9;
 
 const BATCH_DIGITS: usize = 18;
@@ -33,8 +35,16 @@ const LONGEST: usize = 95;
 pub enum Protocol {
     // A card of fields: `H field number`, `R field`, `C field`, `S`.
     Session,
-    // Ten numbers.
-    Batch,
+    // Numbers alone, which ask the same on every line.
+    Batch(Question),
+}
+
+// What a line of a batch asks.
+pub enum Question {
+    // A shot: a number for each field, in the order of the card.
+    Shot,
+    // A pointing: these, and behind them the horizontal angle, clockwise from the mark to the body in units of 0.0001 second of arc.
+    Pointing,
 }
 
 // What a line of the session asks.
@@ -143,7 +153,7 @@ fn append_verdict(out: &mut [u8], place: usize, verdict: Verdict) -> usize
     }
 }
 
-// Appends the answer to a shot: azimuth and zenith distance, and in the batch hour angle and apparent longitude behind them.
+// Appends the answer to a shot: azimuth and zenith distance, and in a batch hour angle and apparent longitude behind them.
 fn append_shot(out: &mut [u8], place: usize, protocol: Protocol, shot: Outcome) -> usize
     requires { ⌜ place + longest ≤ length (now out) ⌝ }
     ensures { λ r. ⌜ Appends (now (out .entry)) place (shotText protocol (shotValues shot)) (now (out .exit)) r ⌝ }
@@ -154,7 +164,7 @@ fn append_shot(out: &mut [u8], place: usize, protocol: Protocol, shot: Outcome) 
             let end = append_pair(out, place, b"az ", a.azimuth, b" zd ", a.zenith_distance);
             match protocol {
                 Protocol::Session => end,
-                Protocol::Batch => append_pair(
+                Protocol::Batch(_) => append_pair(
                     out,
                     end,
                     b" ha ",
@@ -168,22 +178,50 @@ fn append_shot(out: &mut [u8], place: usize, protocol: Protocol, shot: Outcome) 
     }
 }
 
-// Appends the answer to the numbers of a line: a shot where there is one for each field, in the order of the card.
-fn append_batch(t: &SineTable, row: Row, out: &mut [u8], place: usize) -> usize
-    requires { ⌜ (place + longest ≤ length (now out)) × (now t ≡ entries) ⌝ }
-    ensures { λ r. ⌜ Appends (now (out .entry)) place (batchText (listed row)) (now (out .exit)) r ⌝ }
+// Appends the answer to a pointing: the azimuth of the mark, in units of 0.0001 second of arc.
+fn append_mark(out: &mut [u8], place: usize, mark: Mark) -> usize
+    requires { ⌜ place + longest ≤ length (now out) ⌝ }
+    ensures { λ r. ⌜ Appends (now (out .entry)) place (markText (pointingValues mark)) (now (out .exit)) r ⌝ }
+    ensures { λ r. ⌜ r ≤ place + longest ⌝ }
+{
+    match mark {
+        Mark::Azimuth(azimuth) => append_labelled(out, place, b"mark ", azimuth),
+        Mark::Refused(refusal) => append_refusal(out, place, refusal),
+    }
+}
+
+// How many numbers the line of a question has.
+fn numbers_asked(question: Question) -> usize
+    ensures { λ r. ⌜ r ≡ numbersAsked question ⌝ }
+{
+    match question {
+        Question::Shot => card::FIELDS,
+        Question::Pointing => card::FIELDS + 1,
+    }
+}
+
+// Appends the answer to the numbers of a line: to the question where there are as many as it takes, else that the line is malformed.
+fn append_batch(t: &SineTable, question: Question, row: Row, out: &mut [u8], place: usize) -> usize
+    requires { ⌜ (place + longest ≤ length (now out)) × (now t ≡ entries) × (row .count ≤ rowLength) ⌝ }
+    ensures { λ r. ⌜ Appends (now (out .entry)) place (batchText question (listed row)) (now (out .exit)) r ⌝ }
     ensures { λ r. ⌜ r ≤ place + longest ⌝ }
 {
     let numbers = row.numbers;
-    if row.count < card::FIELDS {
+    if row.count != numbers_asked(question) {
         return append_refusal(out, place, Refusal::Malformed);
     }
-    append_shot(
-        out,
-        place,
-        Protocol::Batch,
-        fieldbook::shot_with(t, fieldbook::numbers_of(numbers)),
-    )
+    match question {
+        Question::Shot => {
+            let fields = fieldbook::numbers_of(&numbers[..card::FIELDS]);
+            let protocol = Protocol::Batch(Question::Shot);
+            append_shot(out, place, protocol, fieldbook::shot_with(t, fields))
+        }
+        Question::Pointing => {
+            let fields = fieldbook::numbers_of(&numbers);
+            let angle = numbers[card::FIELDS];
+            append_mark(out, place, pointing::pointing_with(t, fields, angle))
+        }
+    }
 }
 
 // Appends the verdict of a call on a card, and hands on the card.
@@ -270,12 +308,19 @@ pub fn session_reply(t: &SineTable, card: Card, line: &[u8], out: &mut [u8], pla
     }
 }
 
-// Answers a line of the batch, and returns where the answer's newline ends. No card has a part in it, so none is handed about.
-pub fn batch_reply(t: &SineTable, line: &[u8], out: &mut [u8], place: usize) -> usize
+// Answers a line of a batch, and returns where the answer's newline ends. No card has a part in it, so none is handed about.
+pub fn batch_reply(
+    t: &SineTable,
+    question: Question,
+    line: &[u8],
+    out: &mut [u8],
+    place: usize,
+) -> usize
     requires { ⌜ (place + suc longest ≤ length (now out)) × (now t ≡ entries) ⌝ }
-    ensures { λ r. ⌜ Appends (now (out .entry)) place (batchReply (now (line .entry))) (now (out .exit)) r ⌝ }
+    ensures { λ r. ⌜ Appends (now (out .entry)) place (batchReply question (now (line .entry))) (now (out .exit)) r ⌝ }
     ensures { λ r. ⌜ r ≤ place + suc longest ⌝ }
 {
-    let end = append_batch(t, lines::numbers_of(line, BATCH_DIGITS), out, place);
+    let row = lines::numbers_of(line, BATCH_DIGITS);
+    let end = append_batch(t, question, row, out, place);
     lines::append_bytes(out, end, b"\n")
 }

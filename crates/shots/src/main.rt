@@ -1,6 +1,7 @@
-// The batch program: the ten numbers of a shot on each line of standard input; its angles, or its refusal, on standard output.
+// The batch of shots: the ten numbers of a shot on each line of standard input; its angles, or its refusal, on standard output.
 use replies::Protocol;
+use replies::Question;
 
 fn main() {
-    stream::run(Protocol::Batch);
+    stream::run(Protocol::Batch(Question::Shot));
 }

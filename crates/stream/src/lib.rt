@@ -3,6 +3,7 @@ use card::Card;
 use libc::STDIN_FILENO;
 use libc::STDOUT_FILENO;
 use replies::Protocol;
+use replies::Question;
 use sine::SineTable;
 ghost use mathlib.Core.Path.{_≡_};
 ghost use mathlib.Core.List.{[], _++_};
@@ -17,7 +18,7 @@ ghost use Rattle.stream.specs.Sizes.{chunkLength, room};
 ghost use Rattle.stream.specs.Feeding.{keptLength, held, lastReply, Feeds, Reached, Completes};
 
 // The bytes that are kept of an unfinished line: one more than the longest line has that is not malformed.
-const KEPT: usize = 200;
+const KEPT: usize = 220;
 
 // The bytes that are read at once, and room for the answers to them: each byte ends one line at most, whose answer and newline take at most 96.
 const CHUNK: usize = 4_096;
@@ -133,18 +134,25 @@ fn end_session_line(t: &SineTable, state: State, piece: &[u8], out: &mut [u8], p
     }
 }
 
-// Answers the line of the batch that a piece ends. The card stays where it is.
-fn end_batch_line(t: &SineTable, state: State, piece: &[u8], out: &mut [u8], place: usize) -> Fed
+// Answers the line of a batch that a piece ends. The card stays where it is.
+fn end_batch_line(
+    t: &SineTable,
+    question: Question,
+    state: State,
+    piece: &[u8],
+    out: &mut [u8],
+    place: usize,
+) -> Fed
     requires { ⌜ (place + room ≤ length (now out)) × (now t ≡ entries) ⌝ }
-    ensures { λ r. ⌜ r .state .card ≡ next Batch (state .card) (held (state .kept) ++ now (piece .entry)) ⌝ }
+    ensures { λ r. ⌜ r .state .card ≡ next (Batch question) (state .card) (held (state .kept) ++ now (piece .entry)) ⌝ }
     ensures { λ r. ⌜ held (r .state .kept) ≡ [] ⌝ }
-    ensures { λ r. ⌜ Appends (now (out .entry)) place (reply Batch (state .card) (held (state .kept) ++ now (piece .entry))) (now (out .exit)) (r .end) ⌝ }
+    ensures { λ r. ⌜ Appends (now (out .entry)) place (reply (Batch question) (state .card) (held (state .kept) ++ now (piece .entry))) (now (out .exit)) (r .end) ⌝ }
     ensures { λ r. ⌜ r .end ≤ place + room ⌝ }
 {
     let card = state.card;
     let kept = state.kept;
     if kept.len == 0 {
-        let end = replies::batch_reply(t, piece, out, place);
+        let end = replies::batch_reply(t, question, piece, out, place);
         let fresh = State {
             card: card,
             kept: kept,
@@ -157,7 +165,7 @@ fn end_batch_line(t: &SineTable, state: State, piece: &[u8], out: &mut [u8], pla
     let line = keep(kept, piece);
     let bytes = line.bytes;
     let len = line.len;
-    let end = replies::batch_reply(t, &bytes[..len], out, place);
+    let end = replies::batch_reply(t, question, &bytes[..len], out, place);
     let none = no_line();
     let fresh = State {
         card: card,
@@ -186,7 +194,7 @@ fn end_line(
 {
     match protocol {
         Protocol::Session => end_session_line(t, state, piece, out, place),
-        Protocol::Batch => end_batch_line(t, state, piece, out, place),
+        Protocol::Batch(question) => end_batch_line(t, question, state, piece, out, place),
     }
 }
 
@@ -214,7 +222,7 @@ pub fn feed(t: &SineTable, protocol: Protocol, state: State, chunk: &[u8], out: 
     let mut end = 0;
     let mut from = 0;
     while from < chunk.len() {
-        // the part is lent, and not the chunk with its bounds: that takes some 220 instructions less for a line of the batch
+        // the part is lent, and not the chunk with its bounds: that takes some 220 instructions less for a line of a batch
         let left = chunk.len() - from;
         let stop = from + bytes::scan::find(&chunk[from..], 0, left, b'\n');
         if chunk.len() <= stop {

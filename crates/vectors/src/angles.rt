@@ -24,7 +24,7 @@ const SIDE: u64 = 800_000_000;
 pub fn sines(t: &SineTable, a: i64)
     requires { ⌜ now t ≡ entries ⌝ }
 {
-    if a < 0 || exact::TURN <= a {
+    if !exact::is_reduced(a) {
         return output::malformed();
     }
     let angle = exact::reduced(a);
@@ -63,7 +63,7 @@ pub fn of_direction(
     if !located.known {
         return output::refused(Refusal::NoPosition);
     }
-    if sidereal < 0 || exact::TURN <= sidereal {
+    if !exact::is_reduced(sidereal) {
         return output::malformed();
     }
     let side = larger(exact::magnitude(x), exact::magnitude(y));

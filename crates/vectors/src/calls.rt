@@ -34,6 +34,16 @@ pub fn shot(t: &SineTable, card: Card) -> Card
     ended(answer.card)
 }
 
+// The pointing from the card, with a horizontal angle.
+pub fn pointing(t: &SineTable, card: Card, angle: i64) -> Card
+    requires { ⌜ now t ≡ entries ⌝ }
+{
+    let answer = pointing::pointing_from_card_with(t, card, angle);
+    let mark = answer.mark;
+    output::mark(mark);
+    ended(answer.card)
+}
+
 // A field, a place and a buffer.
 pub fn read(card: Card, words: &[u8]) -> Card {
     let end = words::second_end(words);

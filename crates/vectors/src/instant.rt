@@ -17,6 +17,7 @@ use site::Site;
 ghost use mathlib.Core.Path.{_≡_};
 ghost use Prim.Native.Nat.{_+_, _*_, _≤_, _<_, _^_};
 ghost use lib.IntN.{natAbs};
+ghost use lib.ListN.{length};
 ghost use Rattle.exact.specs.Reduction.{turn};
 ghost use Rattle.sine.specs.Sine.{entries};
 ghost use Rattle.rotation.specs.Length.{squaredLength, growth};
@@ -26,6 +27,7 @@ ghost use Rattle.arguments.specs.Sizes.{IsArguments};
 ghost use Rattle.frame.specs.FrameContract.{IsFrame};
 ghost use Rattle.polaris.specs.Sizes.{ElementsSized};
 ghost use Rattle.site.specs.Sizes.{PositionSized};
+ghost use Rattle.card.specs.Fields.{fieldCount};
 ghost use Rattle.vectors.specs.Sizes.{QuantitiesSized};
 
 // An accepted instant: its epoch, the frame of the date, Greenwich sidereal time, the angle g of the centre terms alone, and the Sun's apparent
@@ -48,15 +50,15 @@ pub fn date(year: i64, month: i64, day: i64) {
 }
 
 // The shot with plain numbers.
-pub fn shot(t: &SineTable, fields: [i64; card::FIELDS])
-    requires { ⌜ now t ≡ entries ⌝ }
+pub fn shot(t: &SineTable, fields: &[i64])
+    requires { ⌜ (now t ≡ entries) × (fieldCount ≤ length (now fields)) ⌝ }
 {
     output::shot(fieldbook::shot_with(t, fieldbook::numbers_of(fields)));
 }
 
 // Answers what is asked with the numbers of the fields.
-pub fn at(t: &SineTable, asked: Word, fields: [i64; card::FIELDS])
-    requires { ⌜ now t ≡ entries ⌝ }
+pub fn at(t: &SineTable, asked: Word, fields: &[i64])
+    requires { ⌜ (now t ≡ entries) × (fieldCount ≤ length (now fields)) ⌝ }
 {
     let numbers = fieldbook::numbers_of(fields);
     match calendar::instant_of(numbers.time) {

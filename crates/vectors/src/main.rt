@@ -4,6 +4,7 @@
 mod angles;
 mod calls;
 mod instant;
+mod lists;
 mod output;
 mod words;
 
@@ -59,6 +60,11 @@ fn answer(t: &SineTable, card: Card, line: &[u8]) -> Card
         Word::Read => calls::read(card, words::rest(line)),
         Word::Confirm => calls::confirm(card, numbers[0]),
         Word::CardShot => calls::shot(t, card),
+        Word::Pointing => calls::pointing(t, card, numbers[0]),
+        Word::Choice => {
+            lists::choice(row);
+            card
+        }
         _ => {
             answer_numbers(t, word, numbers);
             card
@@ -67,7 +73,7 @@ fn answer(t: &SineTable, card: Card, line: &[u8]) -> Card
 }
 
 // Answers a word that leaves the card alone, with its numbers.
-fn answer_numbers(t: &SineTable, word: Word, n: [i64; 10])
+fn answer_numbers(t: &SineTable, word: Word, n: [i64; lines::ROW])
     requires { ⌜ now t ≡ entries ⌝ }
 {
     match word {
@@ -75,9 +81,9 @@ fn answer_numbers(t: &SineTable, word: Word, n: [i64; 10])
         Word::Angle => angles::of_vector(t, n[0], n[1]),
         Word::Direction => angles::of_direction(t, n[0], n[1], n[2], n[3], n[4], n[5]),
         Word::Date => instant::date(n[0], n[1], n[2]),
-        Word::Shot => instant::shot(t, n),
+        Word::Shot => instant::shot(t, &n),
         Word::Other => output::malformed(),
         // The others ask of an instant.
-        _ => instant::at(t, word, n),
+        _ => instant::at(t, word, &n),
     }
 }

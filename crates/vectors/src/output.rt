@@ -5,6 +5,7 @@ use card::Reading;
 use fieldbook::Outcome;
 use horizon::Sighting;
 use libc::STDOUT_FILENO;
+use pointing::Mark;
 use refusal::Refusal;
 use refusal::Verdict;
 
@@ -18,7 +19,11 @@ pub fn accepted() {
 }
 
 pub fn refused(refusal: Refusal) {
-    io::print_decimal(STDOUT_FILENO, refusal::number_of(refusal));
+    number(refusal::number_of(refusal));
+}
+
+pub fn number(refusal: u64) {
+    io::print_decimal(STDOUT_FILENO, refusal);
 }
 
 pub fn malformed() {
@@ -92,6 +97,20 @@ pub fn shot(outcome: Outcome) {
         Outcome::Refused(refusal) => {
             refused(refusal);
             io::write_all(STDOUT_FILENO, b" 0 0 0 0");
+        }
+    }
+}
+
+// A pointing: the refusal's number and the mark's azimuth, 0 where it is refused.
+pub fn mark(mark: Mark) {
+    match mark {
+        Mark::Azimuth(azimuth) => {
+            accepted();
+            natural(azimuth);
+        }
+        Mark::Refused(refusal) => {
+            refused(refusal);
+            natural(0);
         }
     }
 }

@@ -10,6 +10,7 @@ pub enum Word {
     Read,
     Confirm,
     CardShot,
+    Pointing,
     Sine,
     Angle,
     Direction,
@@ -19,10 +20,11 @@ pub enum Word {
     Sun,
     Parts,
     Shot,
+    Choice,
     Other,
 }
 
-// What a line with so many numbers asks. A line of `read` is taken apart by that call.
+// What a line with so many numbers asks. A line of `read` is taken apart by that call, and one of `choice` may have any number of them.
 pub fn word_of(line: &[u8], count: usize) -> Word {
     if check::same(line, b"fresh") {
         return Word::Fresh;
@@ -33,6 +35,9 @@ pub fn word_of(line: &[u8], count: usize) -> Word {
     let word = first(line);
     if check::same(word, b"read") {
         return Word::Read;
+    }
+    if check::same(word, b"choice") {
+        return Word::Choice;
     }
     numbers_word(word, count)
 }
@@ -48,6 +53,9 @@ fn numbers_word(word: &[u8], count: usize) -> Word {
     }
     if asks(word, count, b"confirm", 1) {
         return Word::Confirm;
+    }
+    if asks(word, count, b"pointing", 1) {
+        return Word::Pointing;
     }
     if asks(word, count, b"sine", 1) {
         return Word::Sine;

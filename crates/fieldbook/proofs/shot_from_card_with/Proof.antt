@@ -1,5 +1,6 @@
 -- Refusal 1, or the shot with the confirmed numbers; the card is not touched.
 use mathlib.Core.Path.{_≡_, sym, ap, _∙_}
+use native.Mathlib.Omega.{arith}
 use borrow.Author.Needs.{needs}
 use Rattle.refusal.specs.RefusalNumbers.{verdictNumber}
 use Rattle.card.specs.Confirmed.{ConfirmedValues}
@@ -11,8 +12,11 @@ use Rattle.fieldbook.proofs.shot_from_card_with.Tie as tie
 confirmed-numbers-requires : tie.Need-confirmed-numbers-requires
 confirmed-numbers-requires c κs = search needs
 
+slice-aggregate-numbers-of : tie.Need-slice-aggregate-numbers-of
+slice-aggregate-numbers-of c = search needs
+
 numbers-of-requires : tie.Need-numbers-of-requires
-numbers-of-requires c κs = search needs
+numbers-of-requires c κs = omega (arith, slice-aggregate-numbers-of c)
 
 enum-told : tie.Need-enum-told
 enum-told c = search needs
@@ -33,7 +37,7 @@ returns : tie.Need-returns
 returns c =
     let s = c .before in
     let n = s .before .before .before in
-    let f = n .before .before in
+    let f = n .before .before .before in
     let v : verdictNumber (f .confirmed-numbers .result .verdict) ≡ 0 = ap verdictNumber (s .before .enum-told .given .1) in
     let e = ap (λ k. record { refusal = k; numbers = f .confirmed-numbers .result .numbers }) (sym v) ∙ f .confirmed-numbers .ensures in
     let o = c .with-card .ensures in
@@ -42,12 +46,12 @@ returns c =
 returns-2 : tie.Need-returns-2
 returns-2 c =
     let v = c .before .before in
-    let f = v .before .before .before .before in
+    let f = v .before .before .before .before .before in
     let e = sym (ap verdictNumber (v .verdict .given .1)) ∙ ap (λ (a : ConfirmedValues). a .refusal) (f .confirmed-numbers .ensures) in
     let o = c .with-card2 .ensures in
     rw (o .0) (refused-card (f .before .args .card) (v .verdict .given .0 .0) e, o .1, refused-reduced 1)
 
 pub shot-from-card-with-spec : {M : Type 1} → statement M
 shot-from-card-with-spec = tie.close
-    (tie.spec confirmed-numbers-requires numbers-of-requires enum-told shot-with-requires with-card-requires enum-known-verdict with-card-requires-2
+    (tie.spec confirmed-numbers-requires slice-aggregate-numbers-of numbers-of-requires enum-told shot-with-requires with-card-requires enum-known-verdict with-card-requires-2
     returns returns-2)

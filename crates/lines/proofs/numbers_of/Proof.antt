@@ -38,7 +38,7 @@ fresh c = search needs
 loop-holds : tie.Need-loop-holds Inv-loop μ-loop
 loop-holds c =
     let a = c .before .before .args in
-    record { inside = omega arith; full = fresh c; rest = ap (λ row. numbersBehind row (a .most) (words (a .s .now))) (c .empty-row .ensures) }
+    record { inside = omega arith; full = fresh c; rest = ap (λ row. numbersBehind row (a .most) (words (a .s .now))) (c .empty-row .ensures .0) }
 
 -- ---- what is left of the line, and its first word
 module _ (l : tie.At-loop Inv-loop μ-loop) where
@@ -116,8 +116,10 @@ returns c =
     let w = c .before .before .before in
     let l = again (finding w) in
     let r = l .loop .row in
-    c .empty-row2 .ensures
-    ∙ no-number (r .numbers) (l .loop .inv .full) (r .count) (most l) (left l) (sym (c .before .enum-told .given .1) ∙ word w) ∙ l .loop .inv .rest
+    let e = c .empty-row2 .ensures in (
+      e .0 ∙ no-number (r .numbers) (l .loop .inv .full) (r .count) (most l) (left l) (sym (c .before .enum-told .given .1) ∙ word w) ∙ l .loop .inv .rest,
+      e .1,
+    )
 
 empty-row-requires-3 : tie.Need-empty-row-requires-3 Inv-loop μ-loop
 empty-row-requires-3 c κs = search needs
@@ -126,8 +128,10 @@ returns-2 : tie.Need-returns-2 Inv-loop μ-loop
 returns-2 c =
     let n = c .before .before in
     let l = loop n in
-    c .empty-row3 .ensures
-    ∙ no-room (row n .numbers) (l .loop .inv .full) (row n .count) (most l) (left l) (z n) (number n) (c .before .if1 .taken) ∙ l .loop .inv .rest
+    let e = c .empty-row3 .ensures in (
+      e .0 ∙ no-room (row n .numbers) (l .loop .inv .full) (row n .count) (most l) (left l) (z n) (number n) (c .before .if1 .taken) ∙ l .loop .inv .rest,
+      e .1,
+    )
 
 mul-n : tie.Need-mul-n Inv-loop μ-loop
 mul-n c = search needs
@@ -143,9 +147,11 @@ returns-3 c =
     let n = c .before .before in
     let l = loop n in
     let f = found (finding (reading n)) in
-    let d = length-drop (l .loop .from) (line l) in
-    last-number (row n .numbers) (l .loop .inv .full) (row n .count) (most l) (left l) (z n) (number n) (c .before .if1 .left) (omega (arith, c .if2 .taken))
-    ∙ l .loop .inv .rest
+    let d = length-drop (l .loop .from) (line l) in (
+      last-number (row n .numbers) (l .loop .inv .full) (row n .count) (most l) (left l) (z n) (number n) (c .before .if1 .left) (omega (arith, c .if2 .taken))
+          ∙ l .loop .inv .rest,
+      omega (arith, c .before .if1 .left),
+    )
 
 add-from : tie.Need-add-from Inv-loop μ-loop
 add-from c = let l = loop (c .before .before) in omega (arith, l .before .before .before .good .0 .0, c .if2 .left)

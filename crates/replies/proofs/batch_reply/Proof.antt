@@ -26,7 +26,7 @@ returns c =
     let n = c .before .before .append-bytes in
     let b = c .before .before .before .before .before .before .before in
     let a = b .append-batch in
-    rw (← (b .before .before .numbers-of .ensures)) (append-both (a .ensures .0) (n .ensures), omega (arith, a .ensures .1, n .ensures .ends))
+    rw (← (b .before .before .numbers-of .ensures .0)) (append-both (a .ensures .0) (n .ensures), omega (arith, a .ensures .1, n .ensures .ends))
 
 pub batch-reply-spec : {M : Type 1} → statement M
 batch-reply-spec =

@@ -52,7 +52,7 @@ returns-5 c =
     let b = e .before .before in
     let l = b .before .before .args .line .now in
     c .letter-command .ensures
-    ∙ ap (letterCommand (getD l 0 0)) (n .numbers-of .ensures ∙ ap (numbersOf 9) (tail-part 2 l))
+    ∙ ap (letterCommand (getD l 0 0)) (n .numbers-of .ensures .0 ∙ ap (numbersOf 9) (tail-part 2 l))
     ∙ behind-space l (b .if1 .left) (e .if2 .left) (t .if4 .left)
 
 pub session-command-spec : {M : Type 1} → statement M

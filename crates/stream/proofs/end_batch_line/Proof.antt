@@ -53,7 +53,7 @@ returns-2 c =
     let k = c .before .before .before .before .before .before .before in
     let s = k .before .before .before .before .before .before .before .args in
     let l = held (s .state .kept) ++ s .piece .now in
-    (refl, (c .no-line .ensures, rw (ap batchReply (k .keep .ensures .0) ∙ reply-kept Batch (s .state .card) l) at (a .ensures)))
+    (refl, (c .no-line .ensures, rw (ap (batchReply (s .question)) (k .keep .ensures .0) ∙ reply-kept (Batch (s .question)) (s .state .card) l) at (a .ensures)))
 
 pub end-batch-line-spec : {M : Type 1} → statement M
 end-batch-line-spec =

@@ -24,6 +24,9 @@ refused-requires c κs = search needs
 returns : tie.Need-returns
 returns c = search needs
 
+is-reduced-requires : tie.Need-is-reduced-requires
+is-reduced-requires c κs = search needs
+
 malformed-requires : tie.Need-malformed-requires
 malformed-requires c κs = search needs
 
@@ -73,5 +76,5 @@ returns-4 c = search needs
 pub of-direction-spec : {M : Type 1} → statement M
 of-direction-spec =
     tie.close
-    (tie.spec located-requires refused-requires returns malformed-requires returns-2 magnitude-requires magnitude-requires-2 larger-requires
+    (tie.spec located-requires refused-requires returns is-reduced-requires malformed-requires returns-2 magnitude-requires magnitude-requires-2 larger-requires
     magnitude-requires-3 larger-requires-2 malformed-requires-2 returns-3 reduced-requires from-position-requires returns-4)

@@ -19,7 +19,7 @@ quantities-of-requires c κs =
     let e = c .before .epochs .given in
     let found = c .before .before .before in
     let r = subst InstantSized (e .1) (found .instant-of .ensures .1) in
-    (found .before .before .pre, (r .0, r .1))
+    (found .before .before .pre .0, (r .0, r .1))
 
 answer-at-requires : tie.Need-answer-at-requires
 answer-at-requires c κs = search needs

@@ -6,27 +6,29 @@ use Rattle.fieldbook.specs.Shot.{shotValues, ShotReduced, shot}
 use Rattle.fieldbook.specs.declared.Numbers.{Numbers}
 use Rattle.fieldbook.specs.declared.Outcome.{Outcome}
 use Rattle.capi.specs.Interface.{numbers}
-use Rattle.capi.proofs.fieldbook_shot.Statement.{statement}
-use Rattle.capi.proofs.fieldbook_shot.Tie as tie
+use Rattle.capi.proofs.shots.fieldbook_shot.Statement.{statement}
+use Rattle.capi.proofs.shots.fieldbook_shot.Tie as tie
 
 -- the values of the book's own answer are the shot's
 abbrev IsShot : Numbers → Outcome → Type 0
-IsShot n o = (shotValues o ≡ shot n) × ShotReduced (shotValues o)
+IsShot x o = (shotValues o ≡ shot x) × ShotReduced (shotValues o)
 
 module _ (c : tie.After-shot) where
   abbrev x : Numbers
   x =
-      let a = c .before .before .args in
+      let a = c .before .before .before .args in
       numbers (a .year) (a .month) (a .day) (a .hour) (a .minute) (a .millisecond) (a .dut1) (a .latitude) (a .longitude) (a .body)
 
-  shot-is : IsShot x (c .shot .result)
-  shot-is =
-      let f = c .before .before .fits in
-      let e = subst (λ (n : Numbers). IsShot n (c .shot .result)) (c .before .numbers-of .ensures) (c .shot .ensures) in
-      simp (toZ-ofZ, f .year, f .month, f .day, f .hour, f .minute, f .millisecond, f .dut1, f .latitude, f .longitude, f .body) at e
-
   values-of : (o : Outcome) → c .shot .result ≡ o → IsShot x o
-  values-of o e = subst (IsShot x) e shot-is
+  values-of o e =
+      let f = c .before .before .before .fits in
+      let n = c .before .numbers-of .ensures in
+      let is = c .shot .ensures in
+      subst (IsShot x) e
+      (simp (n, toZ-ofZ, f .year, f .month, f .day, f .hour, f .minute, f .millisecond, f .dut1, f .latitude, f .longitude, f .body) at is)
+
+slice-aggregate-numbers-of : tie.Need-slice-aggregate-numbers-of
+slice-aggregate-numbers-of c = search needs
 
 numbers-of-requires : tie.Need-numbers-of-requires
 numbers-of-requires c κs = search needs
@@ -50,4 +52,5 @@ returns-2 : tie.Need-returns-2
 returns-2 c = let d = c .before .before in rw (c .number-of .ensures .0) (values-of (d .before .before) _ (d .refusal .given .1))
 
 pub fieldbook-shot-spec : {M : Type 1} → statement M
-fieldbook-shot-spec = tie.close (tie.spec numbers-of-requires shot-requires enum-known-a enum-known-refusal number-of-requires returns returns-2)
+fieldbook-shot-spec = tie.close
+    (tie.spec slice-aggregate-numbers-of numbers-of-requires shot-requires enum-known-a enum-known-refusal number-of-requires returns returns-2)

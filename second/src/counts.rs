@@ -1,0 +1,109 @@
+//! How often a comparison met each kind of answer.
+
+use std::collections::BTreeMap;
+use std::fmt;
+use std::iter;
+
+/// How often a comparison must reach each outcome that belongs to it.
+pub const LEAST: u64 = 100;
+
+/// What an answer counts as.
+#[derive(Clone, Copy, Debug, PartialEq, Eq, PartialOrd, Ord)]
+pub enum Outcome {
+    /// A shot or a pointing with its angles.
+    Answered,
+    /// A choice of the first list, whose spread is smaller.
+    First,
+    /// A choice of the second list.
+    Second,
+    /// A choice of the first list, the spreads being equal.
+    Tie,
+    /// By the refusal's number.
+    Refused(u64),
+    /// A line that is none of these: `ok` or a text read back.
+    Other,
+}
+
+impl Outcome {
+    /// The outcome of a line of a program's output.
+    fn of_line(line: &str) -> Self {
+        let number = line.strip_prefix("no ").and_then(|text| text.parse().ok());
+        match number {
+            Some(number) => Outcome::Refused(number),
+            None if line.starts_with("az ") || line.starts_with("mark ") => Outcome::Answered,
+            None => Outcome::Other,
+        }
+    }
+}
+
+impl fmt::Display for Outcome {
+    fn fmt(&self, f: &mut fmt::Formatter<'_>) -> fmt::Result {
+        match self {
+            Outcome::Answered => write!(f, "answered"),
+            Outcome::First => write!(f, "first"),
+            Outcome::Second => write!(f, "second"),
+            Outcome::Tie => write!(f, "tie"),
+            Outcome::Refused(number) => write!(f, "no {number}"),
+            Outcome::Other => write!(f, "others"),
+        }
+    }
+}
+
+/// Answers and these refusals.
+pub fn answered_or(refusals: impl IntoIterator<Item = u64>) -> Vec<Outcome> {
+    iter::once(Outcome::Answered).chain(refusals.into_iter().map(Outcome::Refused)).collect()
+}
+
+/// How often each outcome was met.
+#[derive(Clone, Debug, Default, PartialEq, Eq)]
+pub struct Counts {
+    counts: BTreeMap<Outcome, u64>,
+}
+
+impl Counts {
+    /// Counts an outcome as met some times more.
+    pub fn add(&mut self, outcome: Outcome, times: u64) {
+        *self.counts.entry(outcome).or_default() += times;
+    }
+
+    /// Counts one line of a program's output.
+    pub fn add_line(&mut self, line: &str) {
+        self.add(Outcome::of_line(line), 1);
+    }
+
+    /// Adds the counts of another run.
+    pub fn add_all(&mut self, other: &Counts) {
+        for (&outcome, &times) in &other.counts {
+            self.add(outcome, times);
+        }
+    }
+
+    /// How often an outcome was met.
+    pub fn of(&self, outcome: Outcome) -> u64 {
+        self.counts.get(&outcome).copied().unwrap_or_default()
+    }
+
+    /// All that was counted.
+    pub fn total(&self) -> u64 {
+        self.counts.values().sum()
+    }
+
+    /// An error when an outcome of the list was met fewer than `least` times.
+    pub fn all_reached(&self, expected: &[Outcome], least: u64) -> Result<(), String> {
+        match expected.iter().find(|&&outcome| self.of(outcome) < least) {
+            Some(&rare) => {
+                Err(format!("`{rare}` was reached {} times, fewer than {least}", self.of(rare)))
+            }
+            None => Ok(()),
+        }
+    }
+}
+
+impl fmt::Display for Counts {
+    /// The outcomes that were met, in one line.
+    fn fmt(&self, f: &mut fmt::Formatter<'_>) -> fmt::Result {
+        let counts: Vec<String> =
+            self.counts.iter().map(|(outcome, times)| format!("{outcome} {times}")).collect();
+        write!(f, "{}", counts.join(", "))
+    }
+}

@@ -1,0 +1,84 @@
+//! The pointing: the azimuth of a mark from a shot and the horizontal angle between mark and
+//! body. Document 02, request 1.
+
+use crate::card::Card;
+use crate::exact::{is_reduced, reduce};
+use crate::fieldbook::{shot, Angles, Fields};
+use crate::refusal::Refusal;
+use crate::sine::Sine;
+
+/// The mark's azimuth from what the shot gave and the angle, clockwise from mark to body.
+fn mark(shot: Result<Angles, Refusal>, angle: i64) -> Result<i64, Refusal> {
+    let Angles { azimuth, .. } = shot?;
+    if !is_reduced(angle) {
+        return Err(Refusal::AngleOutOfRange);
+    }
+    Ok(reduce(azimuth - angle))
+}
+
+/// The pointing with ten plain numbers; refusals 2 to 8 of the shot, then 15.
+pub fn pointing(sine: &Sine, fields: &Fields, angle: i64) -> Result<i64, Refusal> {
+    mark(shot(sine, fields), angle)
+}
+
+/// The pointing from a card; refusals 1 to 8 of the shot, then 15.
+pub fn pointing_from_card(sine: &Sine, card: &Card, angle: i64) -> Result<i64, Refusal> {
+    mark(card.shot(sine), angle)
+}
+
+#[cfg(test)]
+mod tests {
+    use super::*;
+    use crate::digits::LONGEST;
+    use crate::exact::TURN;
+
+    /// The Sun on 21 March 1976.
+    const FIELDS: Fields = [1976, 3, 21, 19, 31, 44_080, -758, 1_795_363, -1_612_009, 1];
+    /// Its azimuth in the outside vectors of shots.
+    const AZIMUTH: i64 = 9_066_567_473;
+
+    /// A card on which these numbers are confirmed.
+    fn confirmed(fields: &Fields) -> Card {
+        let mut card = Card::fresh();
+        for (field, &number) in (1..).zip(fields) {
+            card.hear(field, number).unwrap();
+            card.read(field, 0, &mut [0; LONGEST]).unwrap();
+            card.confirm(field).unwrap();
+        }
+        card
+    }
+
+    #[test]
+    fn angle_is_subtracted_and_reduced() {
+        let sine = Sine::new();
+        let card = confirmed(&FIELDS);
+        let marks = [
+            (0, AZIMUTH),
+            (1, AZIMUTH - 1),
+            (AZIMUTH, 0),
+            (AZIMUTH + 1, TURN - 1),
+            (TURN - 1, AZIMUTH + 1),
+        ];
+        for (angle, mark) in marks {
+            assert_eq!(pointing(&sine, &FIELDS, angle), Ok(mark));
+            assert_eq!(pointing_from_card(&sine, &card, angle), Ok(mark));
+        }
+    }
+
+    #[test]
+    fn angle_is_tested_behind_the_shot() {
+        let sine = Sine::new();
+        let mut unknown = FIELDS;
+        unknown[9] = 3;
+        for angle in [-1, TURN, i64::MIN, i64::MAX] {
+            let refused = Err(Refusal::AngleOutOfRange);
+            assert_eq!(pointing(&sine, &FIELDS, angle), refused);
+            assert_eq!(pointing_from_card(&sine, &confirmed(&FIELDS), angle), refused);
+            let refused = Err(Refusal::NoSuchBody);
+            assert_eq!(pointing(&sine, &unknown, angle), refused);
+            assert_eq!(pointing_from_card(&sine, &confirmed(&unknown), angle), refused);
+            let refused = Err(Refusal::FieldNotConfirmed);
+            assert_eq!(pointing_from_card(&sine, &Card::fresh(), angle), refused);
+        }
+    }
+}
