@@ -8,7 +8,7 @@ use Rattle.exact.specs.Range.{between}
 use Rattle.sine.specs.SinePolynomial.{arc, whole, polyDen, cofactor, term, polyNum}
 use Rattle.sine.specs.Sine.{entryAt, sinQuadrant, Sin, Cos}
 use Rattle.sine.specs.VectorAngle.{passes, quadrantAngle, angle}
-use Rattle.sine.proofs.Bisection.{quadrant-angle-is}
+use Rattle.sine.proofs.Passing.{quadrant-angle-is}
 use Rattle.epoch.specs.Epoch.{millionths}
 use Rattle.calendar.specs.Date.{leapYear, monthLength, yearDays, monthDays, dayCount, isDate}
 use Rattle.calendar.specs.Time.{leapSecondDay, lastMillisecond, isTime, dayMillisecond, isDut1, since1900, instant, instantOf}

@@ -45,7 +45,7 @@ pub sin-top : sinQuadrant Q ≡ R
 unfolding sinQuadrant
 sin-top = refl
 
-at-entry : (n : ℕ) → n ≤ Q / step → sinQuadrant (step * n) ≡ entryAt n
+pub at-entry : (n : ℕ) → n ≤ Q / step → sinQuadrant (step * n) ≡ entryAt n
 at-entry n h = ⊎-elim last below (eq-or-lt-of-le h)
   where
     last : n ≡ Q / step → sinQuadrant (step * n) ≡ entryAt n

@@ -1,7 +1,7 @@
 -- The angle of a vector by the tests of its components' signs, as the code makes them.
 use mathlib.Core.Path.{_≡_, refl, sym, subst}
 use mathlib.Core.Bool.{true, false}
-use Prim.Native.Nat.{ℕ, zero, suc, _+_, _*_}
+use Prim.Native.Nat.{ℕ, zero, suc, _+_, _*_, _<_}
 use native.Mathlib.Omega.{arith}
 use lib.Dec.{T}
 use lib.IntN.{ℤ, pos, negsuc, natAbs}
@@ -19,6 +19,15 @@ under-zero n e = omega (arith, ltb-true n 0 e)
 
 over-zero : (n : ℕ) → ltZ (pos 0) (pos (suc n)) ≡ false → ⊥
 over-zero n e = omega (arith, ltb-false 0 (suc n) e)
+
+-- ---- a component on one side of 0 is not 0
+pub left-some : (z : ℤ) → ltZ z (pos 0) ≡ true → 0 < natAbs z
+left-some (pos n) h = absurd (under-zero n h)
+left-some (negsuc n) h = omega arith
+
+pub right-some : (z : ℤ) → ltZ (pos 0) z ≡ true → 0 < natAbs z
+right-some (pos n) h = ltb-true 0 n h
+right-some (negsuc n) h = absurd (no h)
 
 -- ---- the angle, branch by branch
 pub left-up : (x y : ℤ) → ltZ x (pos 0) ≡ true → ltZ (pos 0) y ≡ true → angle x y ≡ Q + quadrantAngle (natAbs y) (natAbs x)

@@ -17,9 +17,13 @@ R = 1_000_000_000
 unfoldable pub entryAt : ℕ → ℕ
 entryAt n = nearestDivℕ (R * polyNum (step * n)) polyDen
 
--- one at each step of a quadrant, both ends included: 1,081
+-- how many steps a quadrant has: 1,080
+abbrev pub stepCount : ℕ
+stepCount = Q / step
+
+-- an entry at the start of each, and one at the end
 abbrev pub entryCount : ℕ
-entryCount = Q / step + 1
+entryCount = stepCount + 1
 
 -- the entries n, n + 1, .. , k of them
 unfoldable pub entriesFrom : ℕ → ℕ → List ℕ

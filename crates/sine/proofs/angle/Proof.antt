@@ -1,5 +1,5 @@
 use mathlib.Core.Path.{_≡_, sym, ap, _∙_}
-use Prim.Native.Nat.{ℕ, _+_, _*_, _^_, _≤_}
+use Prim.Native.Nat.{ℕ, _+_, _*_, _^_, _≤_, _<_}
 use native.Mathlib.Omega.{arith}
 use lib.IntN.{ℤ, natAbs}
 use mir.Syntax.{w64}
@@ -9,7 +9,7 @@ use borrow.Author.Needs.{needs}
 use Rattle.exact.specs.Reduction.{Q}
 use Rattle.sine.specs.Sine.{entries}
 use Rattle.sine.specs.VectorAngle.{quadrantAngle}
-use Rattle.sine.proofs.Signs.{left-up, left-down, right-down, right-up, straight-up, nowhere}
+use Rattle.sine.proofs.Signs.{left-some, right-some, left-up, left-down, right-down, right-up, straight-up, nowhere}
 use Rattle.sine.proofs.angle.Statement.{statement}
 use Rattle.sine.proofs.angle.Tie as tie
 
@@ -40,13 +40,13 @@ module _ (c : tie.After-magnitude2) where
   q-le = rw q-is (c .before .before .pre .2)
 
   abbrev Asked : ℕ → ℕ → Type 0
-  Asked p q = (c .before .before .args .t .now ≡ entries) × (p ≤ 2 ^ 34) × (q ≤ 2 ^ 34)
+  Asked p q = (c .before .before .args .t .now ≡ entries) × (0 < p) × (p ≤ 2 ^ 34) × (q ≤ 2 ^ 34)
 
-  asked-pq : Asked (c .before .magnitude .result) (c .magnitude2 .result)
-  asked-pq = (c .before .before .pre .0, p-le, q-le)
+  asked-pq : 0 < natAbs x → Asked (c .before .magnitude .result) (c .magnitude2 .result)
+  asked-pq some = (c .before .before .pre .0, rw p-is some, p-le, q-le)
 
-  asked-qp : Asked (c .magnitude2 .result) (c .before .magnitude .result)
-  asked-qp = (c .before .before .pre .0, q-le, p-le)
+  asked-qp : 0 < natAbs y → Asked (c .magnitude2 .result) (c .before .magnitude .result)
+  asked-qp some = (c .before .before .pre .0, rw q-is some, q-le, p-le)
 
 magnitude-requires : tie.Need-magnitude-requires
 magnitude-requires c κs = search needs
@@ -55,7 +55,9 @@ magnitude-requires-2 : tie.Need-magnitude-requires-2
 magnitude-requires-2 c κs = search needs
 
 quadrant-angle-requires : tie.Need-quadrant-angle-requires
-quadrant-angle-requires c κs = asked-qp (c .before .before)
+quadrant-angle-requires c κs =
+    let m = c .before .before in
+    asked-qp m (right-some (y m) (simp (toZ-ofZ, y-fits m) at (c .if2 .taken)))
 
 add-result : tie.Need-add-result
 add-result c = search needs
@@ -64,7 +66,9 @@ mul-result : tie.Need-mul-result
 mul-result c = search needs
 
 quadrant-angle-requires-2 : tie.Need-quadrant-angle-requires-2
-quadrant-angle-requires-2 c κs = asked-pq (c .before .before)
+quadrant-angle-requires-2 c κs =
+    let m = c .before .before in
+    asked-pq m (left-some (x m) (simp (toZ-ofZ, x-fits m) at (c .before .if1 .taken)))
 
 add-result-2 : tie.Need-add-result-2
 add-result-2 c = search needs
@@ -73,16 +77,22 @@ mul-result-2 : tie.Need-mul-result-2
 mul-result-2 c = search needs
 
 quadrant-angle-requires-3 : tie.Need-quadrant-angle-requires-3
-quadrant-angle-requires-3 c κs = asked-qp (c .before .before)
+quadrant-angle-requires-3 c κs =
+    let m = c .before .before in
+    asked-qp m (left-some (y m) (simp (toZ-ofZ, y-fits m) at (c .if3 .taken)))
 
 add-result-3 : tie.Need-add-result-3
 add-result-3 c = search needs
 
 quadrant-angle-requires-4 : tie.Need-quadrant-angle-requires-4
-quadrant-angle-requires-4 c κs = asked-pq (c .before .before .before)
+quadrant-angle-requires-4 c κs =
+    let m = c .before .before .before in
+    asked-pq m (right-some (x m) (simp (toZ-ofZ, x-fits m) at (c .if4 .taken)))
 
 quadrant-angle-requires-5 : tie.Need-quadrant-angle-requires-5
-quadrant-angle-requires-5 c κs = asked-qp (c .before .before .before .before)
+quadrant-angle-requires-5 c κs =
+    let m = c .before .before .before .before in
+    asked-qp m (right-some (y m) (simp (toZ-ofZ, y-fits m) at (c .if5 .taken)))
 
 add-result-4 : tie.Need-add-result-4
 add-result-4 c = search needs

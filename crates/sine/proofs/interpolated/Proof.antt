@@ -1,7 +1,7 @@
 -- What is between the entries, shared out and rounded once.
 use mathlib.Core.Path.{_≡_}
 use Prim.Native.Nat.{ℕ, _+_, _-_, _*_, _/_, _≤_}
-use native.Mathlib.Nat.{mul-le-mul}
+use native.Mathlib.Nat.{mul-le-mul, mul-le-mul-left}
 use native.Mathlib.Omega.{arith}
 use borrow.Author.Needs.{needs}
 use Rattle.exact.specs.Division.{nearestDivℕ}
@@ -43,7 +43,7 @@ returns : tie.Need-returns
 returns c =
     let a = c .args in
     let e : a .low + (a .high - a .low) ≡ a .high = omega arith in
-    rw e at (shared (a .low) (a .high - a .low) (a .r) (c .pre .2))
+    (rw e at (shared (a .low) (a .high - a .low) (a .r) (c .pre .2)), omega (arith, mul-le-mul-left (a .high - a .low) (c .pre .2)))
 
 pub interpolated-spec : {M : Type 1} → statement M
 interpolated-spec = tie.close (tie.spec sub-result mul-result add-result add-result-2 returns)

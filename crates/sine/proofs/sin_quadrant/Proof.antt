@@ -1,12 +1,11 @@
-use mathlib.Core.Path.{_≡_, _∙_}
+use mathlib.Core.Path.{_∙_}
 use Prim.Native.Nat.{_+_, _/_, _%_}
 use native.Mathlib.Omega.{arith}
 use borrow.Author.Needs.{needs}
-use borrow.Author.Tests.{lt-ltb, le-ltb}
+use borrow.Author.Tests.{lt-ltb}
 use Rattle.sine.specs.Step.{step}
 use Rattle.sine.specs.Sine.{interpolated, sinQuadrant}
 use Rattle.sine.proofs.TableRule.{entry-climbs}
-use Rattle.sine.proofs.Monotonicity.{sin-le}
 use Rattle.sine.proofs.sin_quadrant.Statement.{statement}
 use Rattle.sine.proofs.sin_quadrant.Tie as tie
 
@@ -21,28 +20,17 @@ entry-at-requires-2 c κs = search needs
 
 interpolated-requires : tie.Need-interpolated-requires
 interpolated-requires c κs =
-    let a = c .before .before .before .args .a in
+    let a = c .before .before .args .a in
     let climbs = entry-climbs (a / step) (a / step + 1) (omega arith) (omega arith) in
     (rw (c .before .entry-at .ensures .0, c .entry-at2 .ensures .0) climbs, c .entry-at2 .ensures .1, omega arith)
-
-cast-result : tie.Need-cast-result
-cast-result c = search needs
 
 returns : tie.Need-returns
 unfolding sinQuadrant
 returns c =
-    let a = c .before .before .before .before .args .a in
+    let s = c .before .before .before in
     let low = c .before .before .entry-at .ensures .0 in
     let high = c .before .entry-at2 .ensures .0 in
-    let e : c .interpolated .result ≡ sinQuadrant a =
-    c .interpolated .ensures ∙ (λ i. interpolated (low i) (high i) (a % step)) ∙ simp (lt-ltb _ _ (c .before .before .before .if1 .taken)) in
-    (e, rw e (sin-le a (omega arith)))
-
-returns-2 : tie.Need-returns-2
-unfolding sinQuadrant
-returns-2 c = (simp (le-ltb _ _ (c .if1 .left)), omega arith)
+    (c .interpolated .ensures .0 ∙ (λ i. interpolated (low i) (high i) (s .args .a % step)) ∙ simp (lt-ltb _ _ (s .pre .1)), c .interpolated .ensures .1)
 
 pub sin-quadrant-spec : {M : Type 1} → statement M
-sin-quadrant-spec =
-    tie.close
-    (tie.spec entry-at-requires add-entry-at entry-at-requires-2 interpolated-requires cast-result returns returns-2)
+sin-quadrant-spec = tie.close (tie.spec entry-at-requires add-entry-at entry-at-requires-2 interpolated-requires returns)
