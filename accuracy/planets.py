@@ -1,5 +1,5 @@
 #!/usr/bin/env python3
-"""planets.py SHOTS BOOK ERFA_AT_UT: fits the periods of Jupiter, Mars and others to the book's differences in the Sun's longitude and
+"""planets.py SHOTS BOOK ERFA: fits the periods of Jupiter, Mars and others to the book's differences in the Sun's longitude and
 prints the size of each, in seconds of arc, to show where the differences come from."""
 import datetime
 import math

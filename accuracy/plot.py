@@ -1,14 +1,22 @@
 #!/usr/bin/env python3
-"""plot.py SHOTS BOOK ERFA ERFA_AT_UT PICTURE: compares the book's answers with ERFA's, prints the largest and the root mean square
-differences in seconds of arc and draws those of each instant. SHOTS: ten numbers to a line. BOOK: what the batch program prints for
-them. ERFA: what bench/harness.c prints; ERFA_AT_UT: the same with UT in place of ET."""
+"""plot.py SHOTS WITH WITHOUT ERFA PICTURE: compares the book's answers, with and without ΔT, with ERFA's. Prints the largest and the
+root mean square differences, in seconds of arc and those of azimuths also over 900 m, and draws the differences. SHOTS: eleven numbers
+to a line. WITH: what the batch program prints for them. WITHOUT: the same with 0 for ΔT, field 11. ERFA: what bench/harness.c prints."""
 import math
 import sys
+from collections import namedtuple
 
 TURN = 12_960_000_000
 UNITS = 10_000  # to a second of arc
-WIDTH, HEIGHT, LEFT, TOP = 900, 200, 70, 40  # of a panel, in pixels
+MILLIMETRES = 900_000 * math.pi / 648_000  # that a second of arc is at 900 m
+WIDTH, HEIGHT, LEFT, RIGHT, TOP, BETWEEN = 900, 240, 70, 130, 110, 76  # of a panel, and around it, in pixels
 FIRST_YEAR, LAST_YEAR = 1976, 2050
+# How the answers with ΔT are drawn and those without: told apart by hue, by brightness, and as a solid and a broken line.
+Style = namedtuple('Style', 'name colour line dot')
+STYLES = [
+    Style('with ΔT', '#002f6c', 'stroke-width="4"', 'stroke="#3d78d0" stroke-width="2.5"'),
+    Style('without ΔT', '#b34700', 'stroke-width="4" stroke-dasharray="10 6"', 'stroke="#ffc766" stroke-width="4"'),
+]
 
 
 def read_book(path):
@@ -33,7 +41,7 @@ def short_way(a, b):
 
 def series(shots, body, angle, a, b):
     """Year and difference of one angle of one body."""
-    return [(n[0] + (n[1] - 1) / 12 + n[2] / 365, short_way(x[angle], y[angle])) for n, x, y in zip(shots, a, b) if n[9] == body]
+    return [(n[0] + (n[1] - 1) / 12 + (n[2] - 1) / 365, short_way(x[angle], y[angle])) for n, x, y in zip(shots, a, b) if n[9] == body]
 
 
 def figures(points):
@@ -41,40 +49,69 @@ def figures(points):
     return max(abs(d) for _, d in points), math.sqrt(sum(d * d for _, d in points) / len(points))
 
 
-def panel(title, points, top):
-    """One panel: a dot for every second instant."""
-    reach = max(1.0, math.ceil(max(abs(d) for _, d in points)))
+def yearly(points):
+    """The middle of each year and the mean of its differences."""
+    years = {}
+    for year, d in points:
+        years.setdefault(int(year), []).append(d)
+    return [(year + 0.5, sum(ds) / len(ds)) for year, ds in years.items()]
+
+
+def panel(title, drawn, top):
+    """One panel: for each style a dot for every second instant, and a line through the yearly means."""
+    reach = max(1.0, math.ceil(max(abs(d) for points in drawn for _, d in points)))
     x = lambda year: LEFT + (year - FIRST_YEAR) / (LAST_YEAR - FIRST_YEAR) * WIDTH
     y = lambda d: top + HEIGHT / 2 - d / reach * HEIGHT / 2
-    out = [f'<text x="{LEFT}" y="{top - 10}" font-weight="bold">{title}</text>']
+    out = [f'<text x="{LEFT}" y="{top - 12}" font-weight="bold">{title}</text>']
     for d in (-reach, -reach / 2, 0, reach / 2, reach):
         out.append(f'<path d="M{LEFT} {y(d):.1f}h{WIDTH}" stroke="#ccc"/>')
-        out.append(f'<text x="{LEFT - 8}" y="{y(d) + 4:.1f}" text-anchor="end">{d:g}″</text>')
+        out.append(f'<text x="{LEFT - 8}" y="{y(d) + 6:.1f}" text-anchor="end">{d:g}″</text>')
     for year in range(1980, LAST_YEAR + 1, 10):
         out.append(f'<path d="M{x(year):.1f} {top}v{HEIGHT}" stroke="#eee"/>')
-        out.append(f'<text x="{x(year):.1f}" y="{top + HEIGHT + 16}" text-anchor="middle">{year}</text>')
-    dots = ''.join(f'M{x(year):.1f} {y(d):.1f}h0' for year, d in points[::2])
-    out.append(f'<path d="{dots}" stroke="#06c" stroke-width="2" stroke-linecap="round"/>')
+        out.append(f'<text x="{x(year):.1f}" y="{top + HEIGHT + 22}" text-anchor="middle">{year}</text>')
+    for points, style in reversed(list(zip(drawn, STYLES))):
+        dots = ''.join(f'M{x(year):.1f} {y(d):.1f}h0' for year, d in points[::2])
+        out.append(f'<path d="{dots}" {style.dot} stroke-linecap="round"/>')
+    lines = ['M' + 'L'.join(f'{x(year):.1f} {y(d):.1f}' for year, d in yearly(points)) for points in drawn]
+    out += [f'<path d="{line}" fill="none" stroke="#fff" stroke-width="9"/>' for line in lines]
+    out += [f'<path d="{line}" fill="none" stroke="{style.colour}" {style.line}/>' for line, style in zip(lines, STYLES)]
+    ends = [yearly(points)[-1][1] for points in drawn]
+    for i, style in enumerate(STYLES):
+        place = y(sum(ends) / 2) + (-4 if i == ends.index(max(ends)) else 16)
+        out.append(f'<text x="{LEFT + WIDTH + 8}" y="{place:.1f}" fill="{style.colour}" font-weight="bold">{style.name}</text>')
+    return out
+
+
+def legend():
+    """What the lines and the dots are."""
+    out = [f'<text x="{LEFT}" y="28">The book less ERFA. Lines: the mean of each year. Dots: every tenth day.</text>']
+    for i, style in enumerate(STYLES):
+        x = LEFT + 260 * i
+        out.append(f'<path d="M{x} 52h60" stroke="{style.colour}" {style.line}/>')
+        out.append(f'<path d="M{x + 70} 52h0m12 0h0m12 0h0" {style.dot} stroke-linecap="round"/>')
+        out.append(f'<text x="{x + 106}" y="58" fill="{style.colour}" font-weight="bold">{style.name}</text>')
     return out
 
 
 def main():
     shots = [[int(w) for w in line.split()] for line in open(sys.argv[1])]
-    book, erfa, at_ut = read_book(sys.argv[2]), read_erfa(sys.argv[3]), read_erfa(sys.argv[4])
-    if not len(shots) == len(book) == len(erfa) == len(at_ut):
+    given, without, erfa = read_book(sys.argv[2]), read_book(sys.argv[3]), read_erfa(sys.argv[4])
+    if not len(shots) == len(given) == len(without) == len(erfa):
         sys.exit('not every shot has its answers')
-    drawn = [("Sun's apparent longitude", 1, 3), ("Sun's azimuth", 1, 0), ("Azimuth of Polaris", 2, 0)]
-    print(f'{"seconds of arc":28}{"book - ERFA":>16}{"theory alone":>16}{"UT for ET alone":>18}')
-    out = []
-    for i, (name, body, angle) in enumerate(drawn):
-        points = series(shots, body, angle, book, erfa)
-        parts = [points, series(shots, body, angle, book, at_ut), series(shots, body, angle, at_ut, erfa)]
-        whole, short, late = (figures(p) for p in parts)
-        for word, k in (('largest', 0), ('root mean square', 1)):
-            print(f'{name if k == 0 else "":28}{whole[k]:16.2f}{short[k]:16.2f}{late[k]:18.2f}  {word}')
-        out += panel(name + ', book less ERFA', points, TOP + i * (HEIGHT + 60))
-    size = (LEFT + WIDTH + 20, TOP + len(drawn) * (HEIGHT + 60))
-    head = f'<svg xmlns="http://www.w3.org/2000/svg" viewBox="0 0 {size[0]} {size[1]}" font-family="sans-serif" font-size="13">'
+    angles = [("Sun's apparent longitude", 1, 3), ("Sun's azimuth", 1, 0), ('Azimuth of Polaris', 2, 0)]
+    print(f'{"seconds of arc":45}{"with ΔT - ERFA":>16}{"without - ERFA":>16}{"with - without":>16}')
+    out, over, titles = legend(), [], []
+    for i, (name, body, angle) in enumerate(angles):
+        parts = [series(shots, body, angle, a, b) for a, b in ((given, erfa), (without, erfa), (given, without))]
+        for word, *row in zip(('largest', 'root mean square'), *(figures(p) for p in parts)):
+            print(f'{name + ", " + word:45}{row[0]:16.2f}{row[1]:16.2f}{row[2]:16.4f}')
+            over.append(f'{name + ", " + word:45}' + ''.join(f'{d * MILLIMETRES:16.1f}' for d in row))
+        apart = sorted(abs(d) for _, d in parts[2])
+        titles.append(f'{name}: with and without {apart[0]:.2g}″ to {apart[-1]:.2g}″ apart')
+        out += panel(titles[-1], parts[:2], TOP + i * (HEIGHT + BETWEEN))
+    print('\nmillimetres over 900 m', *over[2:], '', *titles, '', sep='\n')
+    size = (LEFT + WIDTH + RIGHT, TOP + len(angles) * (HEIGHT + BETWEEN) - BETWEEN + 40)
+    head = f'<svg xmlns="http://www.w3.org/2000/svg" viewBox="0 0 {size[0]} {size[1]}" font-family="sans-serif" font-size="18">'
     with open(sys.argv[5], 'w') as picture:
         picture.write('\n'.join([head, '<rect width="100%" height="100%" fill="#fff"/>'] + out + ['</svg>']) + '\n')
 

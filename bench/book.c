@@ -2,10 +2,10 @@
 #include "fieldbook.h"
 #include "harness.h"
 
-int64_t bench_shot(const int64_t n[10], int64_t angles[4])
+int64_t bench_shot(const int64_t n[11], int64_t angles[4])
 {
     struct fieldbook_shot_answer a =
-        fieldbook_shot(n[0], n[1], n[2], n[3], n[4], n[5], n[6], n[7], n[8], n[9]);
+        fieldbook_shot(n[0], n[1], n[2], n[3], n[4], n[5], n[6], n[7], n[8], n[9], n[10]);
     angles[0] = (int64_t)a.azimuth;
     angles[1] = (int64_t)a.zenith_distance;
     angles[2] = (int64_t)a.hour_angle;

@@ -14,7 +14,8 @@ struct instant {
     double utc[2], tt[2], ut1[2];
 };
 
-/* Fields 1 to 7 as UTC, TT and UT1. */
+/* Fields 1 to 7 as UTC, TT and UT1. TT is found from UTC by ERFA's own table of leap seconds, and
+   field 11, ET - UT1, is not used. */
 static struct instant instant_of(const int64_t *fields)
 {
     struct instant t;
@@ -24,11 +25,6 @@ static struct instant instant_of(const int64_t *fields)
     eraUtctai(t.utc[0], t.utc[1], &tai[0], &tai[1]);
     eraTaitt(tai[0], tai[1], &t.tt[0], &t.tt[1]);
     eraUtcut1(t.utc[0], t.utc[1], (double)fields[6] / 1000.0, &t.ut1[0], &t.ut1[1]);
-#ifdef UT_FOR_ET
-    /* The book's own simplification, so that accuracy/run can tell what it costs. */
-    t.tt[0] = t.ut1[0];
-    t.tt[1] = t.ut1[1];
-#endif
     return t;
 }
 
@@ -66,7 +62,7 @@ static void polaris(const struct instant *t, double *hour_angle, double *declina
     *hour_angle = eraEra00(t->ut1[0], t->ut1[1]) - ra;
 }
 
-int64_t bench_shot(const int64_t fields[10], int64_t angles[4])
+int64_t bench_shot(const int64_t fields[11], int64_t angles[4])
 {
     struct instant t = instant_of(fields);
     double hour_angle, declination, azimuth, altitude, s = 0.0;

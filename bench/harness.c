@@ -14,7 +14,7 @@
 
 enum { LARGEST_POOL = 1 << 16, BATCH = 1000 };
 
-static int64_t pool[LARGEST_POOL][10];
+static int64_t pool[LARGEST_POOL][11];
 
 /* Reads shots of one body, or of both when body is 0; returns how many. */
 static size_t read_pool(int64_t body)
@@ -22,7 +22,7 @@ static size_t read_pool(int64_t body)
     size_t count = 0;
     while (count < LARGEST_POOL) {
         int64_t *fields = pool[count];
-        for (int i = 0; i < 10; i++)
+        for (int i = 0; i < 11; i++)
             if (scanf("%" SCNd64, &fields[i]) != 1)
                 return count;
         if (body == 0 || fields[9] == body)

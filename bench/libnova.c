@@ -1,5 +1,5 @@
-/* The shot by libnova, geocentric, without refraction: needs libnova-dev.
-   Link with -lnova -lm. */
+/* The shot by libnova, geocentric, without refraction: needs libnova-dev. Its functions share one
+   time, for which they are given UT1; field 11, ET - UT1, is not used. Link with -lnova -lm. */
 #include "harness.h"
 
 #include <libnova/libnova.h>
@@ -28,7 +28,7 @@ static struct ln_equ_posn place(int64_t body, double jd)
     return apparent;
 }
 
-int64_t bench_shot(const int64_t fields[10], int64_t angles[4])
+int64_t bench_shot(const int64_t fields[11], int64_t angles[4])
 {
     struct ln_date date = {(int)fields[0], (int)fields[1], (int)fields[2], (int)fields[3],
                            (int)fields[4], (double)(fields[5] + fields[6]) / 1000.0};

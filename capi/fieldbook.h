@@ -1,7 +1,11 @@
 /* The field book for C: the functions of the static library libcapi.a (`rt staticlib capi`).
    Each is proved, and docs/PROMISES.md says what that means. They keep nothing between two calls, take any
    numbers, write to no memory of the caller, and may be called by several threads at once. The choice reads
-   the two lists lent to it; the others read no memory of the caller either. */
+   the two lists lent to it; the others read no memory of the caller either.
+
+   Header and library belong together. The linker does not compare how many numbers a function takes, and
+   code compiled with the header of another version would hand over some of them in the wrong place: compile
+   everything that includes this file again with each new library. */
 #ifndef FIELDBOOK_H
 #define FIELDBOOK_H
 
@@ -12,19 +16,20 @@
 extern "C" {
 #endif
 
-/* Why there is no answer. Where several apply, a shot or a pointing gives the lowest, and a choice
-   gives 16 before 15. */
+/* Why there is no answer, in the order of the tests, which is not everywhere that of the numbers: where
+   several apply, a call gives the first of this list. */
 enum fieldbook_refusal {
     FIELDBOOK_ANSWERED = 0,
     FIELDBOOK_NO_DATE = 2,       /* no such date, or not in 1976 to 2049 */
     FIELDBOOK_NO_TIME = 3,       /* hour, minute or millisecond not allowed */
     FIELDBOOK_NO_DUT1 = 4,       /* DUT1 out of range */
+    FIELDBOOK_NO_DELTA_T = 17,   /* delta T out of range */
     FIELDBOOK_NO_POSITION = 5,   /* latitude or longitude out of range */
     FIELDBOOK_NO_BODY = 6,       /* body neither 1 nor 2 */
     FIELDBOOK_BELOW_HORIZON = 7, /* the body is below the horizon */
     FIELDBOOK_NEAR_ZENITH = 8,   /* the body is too near the zenith for an azimuth */
-    FIELDBOOK_NO_ANGLE = 15,     /* a horizontal angle or a result not in 0 to 12,959,999,999 */
-    FIELDBOOK_NO_LIST = 16       /* a list of results empty or longer than 64 */
+    FIELDBOOK_NO_LIST = 16,      /* a list of results empty or longer than 64 */
+    FIELDBOOK_NO_ANGLE = 15      /* a horizontal angle or a result not in 0 to 12,959,999,999 */
 };
 
 /* A shot's answer, its angles in units of 0.0001 second of arc, 0 to 12,959,999,999. Check the
@@ -49,32 +54,42 @@ enum fieldbook_body { FIELDBOOK_SUN = 1, FIELDBOOK_POLARIS = 2 };
    latitude            in 0.1 seconds of arc, north positive, -3,204,000 to 3,204,000
    longitude           in 0.1 seconds of arc, east positive, -6,479,999 to 6,480,000
    body                an enum fieldbook_body
+   delta_t             ET - UT1 in milliseconds, 0 to 120,000: how far ephemeris time, by which the
+                       bodies move, is ahead of UT1, by which the Earth turns. Since 1984 almanacs
+                       and bulletins have TT - UT1, which continues it; that is
+                       32,184 + 1,000 (TAI - UTC) - dut1, and while TAI - UTC is 37 s, as since
+                       2017, 69,184 - dut1. A whole second of it is 0.04 seconds of arc of the Sun's
+                       longitude. 0 is the older rule, in which both times are one: the Sun is then
+                       behind by 2 to 3 seconds of arc.
+
+   Nothing compares dut1 and delta_t with the date or with each other.
 
        struct fieldbook_shot_answer a =
-           fieldbook_shot(1984, 7, 2, 14, 30, 0, 0, 1224000, -4230000, FIELDBOOK_SUN);
+           fieldbook_shot(1984, 7, 2, 14, 30, 0, 0, 1224000, -4230000, FIELDBOOK_SUN, 54184);
        if (a.refusal != FIELDBOOK_ANSWERED)
            return a.refusal;
        set_out(a.azimuth); */
 struct fieldbook_shot_answer fieldbook_shot(int64_t year, int64_t month, int64_t day, int64_t hour,
                                             int64_t minute, int64_t millisecond, int64_t dut1,
-                                            int64_t latitude, int64_t longitude, int64_t body);
+                                            int64_t latitude, int64_t longitude, int64_t body,
+                                            int64_t delta_t);
 
 /* A pointing's answer. Check the refusal first: a refused pointing has no mark, and what stands for
    it is 0, which is also the azimuth of a mark due north. */
 struct fieldbook_pointing_answer {
-    uint64_t refusal; /* 2 to 8 or 15 of enum fieldbook_refusal, 0 where the pointing is answered */
+    uint64_t refusal; /* 2 to 8, 15 or 17 of enum fieldbook_refusal, 0 where the pointing is answered */
     uint64_t mark;    /* azimuth of the mark from north, clockwise, in units of 0.0001 second of arc,
                          0 to 12,959,999,999 */
 };
 
 /* The pointing: the azimuth of a reference mark, which is the body's less the horizontal angle,
-   reduced to one turn. The first ten numbers are those of the shot, which is tested before the angle.
+   reduced to one turn. The first eleven numbers are those of the shot, which is tested before the angle.
 
    angle               horizontal angle, clockwise from the mark to the body, in units of 0.0001
                        second of arc, 0 to 12,959,999,999
 
        struct fieldbook_pointing_answer a = fieldbook_pointing(
-           1984, 7, 2, 14, 30, 0, 0, 1224000, -4230000, FIELDBOOK_SUN, 1234567890);
+           1984, 7, 2, 14, 30, 0, 0, 1224000, -4230000, FIELDBOOK_SUN, 54184, 1234567890);
        if (a.refusal != FIELDBOOK_ANSWERED)
            return a.refusal;
        set_out(a.mark); */
@@ -82,7 +97,7 @@ struct fieldbook_pointing_answer fieldbook_pointing(int64_t year, int64_t month,
                                                     int64_t hour, int64_t minute,
                                                     int64_t millisecond, int64_t dut1,
                                                     int64_t latitude, int64_t longitude,
-                                                    int64_t body, int64_t angle);
+                                                    int64_t body, int64_t delta_t, int64_t angle);
 
 /* A choice's answer. Check the refusal first: with one, neither list is chosen, list is 1 and count
    is 0. */

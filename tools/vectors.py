@@ -12,7 +12,7 @@ import almanac
 from almanac import ROOT, TURN
 
 # the names of parts.txt in the order in which `parts` answers
-TIME = "N q L Ms Mm Mv D Om Lm obl lp1 lp2 lp3".split()
+TIME = "N sidereal_q Ne q L Ms Mm Mv D Om Lm obl lp1 lp2 lp3".split()
 FRAME = "dpsi mean_obliquity eps sidereal g".split()
 SUN = ["s"]
 POLARIS = "p ra dec zeta z theta catalogue before_aberration".split()
@@ -26,7 +26,9 @@ POINTINGS = 1
 HEARD = 9_999_999
 EMPTY = "00" * 15
 # the most numbers of a line
-NUMBERS = 11
+NUMBERS = 12
+# the most digits of a number on a line
+DIGITS = 18
 # a latitude from which Polaris is always seen, 45° in 0.1″
 NORTH = 1_620_000
 
@@ -66,23 +68,24 @@ def steps(lines):
         value = dict(zip(words[::2], words[1::2]))
         body = SUN if fields[9] == "1" else POLARIS
         value.setdefault("g", str((int(value["L"]) + int(value.get("centre", 0))) % TURN))
-        found.append((f"instant {' '.join(fields[:7])}", f"0 {listed(value, TIME)}"))
+        found.append((f"instant {' '.join(fields[:7] + fields[10:])}", f"0 {listed(value, TIME)}"))
         found.append((f"parts {left}", f"0 {listed(value, TIME + FRAME + body + VIEW)}"))
     return found
 
 
 def suns(second):
-    instants = dict.fromkeys((date, hour) for date, hour, _, _ in almanac.figures())
-    return [(f"sun {date} {hour} 0 0 0", " ".join(map(str, [0] + almanac.sun(second, date, hour)))) for date, hour in instants]
+    instants = dict.fromkeys(at for hour, scale, delta_t, *_ in almanac.figures() for at in almanac.readings(hour, scale, delta_t).values())
+    return [(f"sun {at}", " ".join(map(str, [0] + almanac.sun(second, at)))) for at in instants]
 
 
 def own_cases(second, lines):
-    """An accepted instant's arguments, behind its N and q, are the second program's, which must agree on these two."""
+    """An accepted instant's arguments, behind N and q of its two times, are the second program's, which must agree on these four."""
     found = []
     for left, right in lines:
         word, _, numbers = left.partition(" ")
         if word == "instant" and right.startswith("0 "):
-            answer = "0 " + listed(almanac.parts(second, f"{numbers} {NORTH} 0 2"), TIME)
+            *time, delta_t = numbers.split()
+            answer = "0 " + listed(almanac.parts(second, f"{' '.join(time)} {NORTH} 0 2 {delta_t}"), TIME)
             if not answer.startswith(right + " "):
                 sys.exit(f"the second program has {answer}: {left} = {right}")
             right = answer
@@ -103,7 +106,9 @@ def first_of_each(lines, count):
 
 
 def some_shots(lines):
-    return [(f"shot {left}", right) for left, right in first_of_each(lines, SHOTS)]
+    """Of the plain shots those that a line has room for."""
+    fitting = [(left, right) for left, right in lines if all(len(number.lstrip("-")) <= DIGITS for number in left.split())]
+    return [(f"shot {left}", right) for left, right in first_of_each(fitting, SHOTS)]
 
 
 def pointings_from_cards(second, lines):

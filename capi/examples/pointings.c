@@ -1,4 +1,4 @@
-/* Works two sets of pointings from standard input, the ten numbers of a shot and the horizontal
+/* Works two sets of pointings from standard input, the eleven numbers of a shot and the horizontal
    angle to a line, with an empty line between the sets. Prints the azimuth of the mark by each in
    degrees, minutes and seconds, or the refusal, and at the end which set has the smaller spread. */
 #include "fieldbook.h"
@@ -25,18 +25,18 @@ static void fail(const char *why)
 }
 
 /* Reads the next pointing of a set; returns whether there was one. */
-static int read_pointing(int64_t n[11])
+static int read_pointing(int64_t n[12])
 {
     int c = getchar();
     if (c == '\n' || c == EOF)
         return 0;
     ungetc(c, stdin);
-    for (int i = 0; i < 11; i++)
+    for (int i = 0; i < 12; i++)
         if (scanf("%" SCNd64, &n[i]) != 1)
-            fail("a line is eleven numbers");
+            fail("a line is twelve numbers");
     c = getchar();
     if (c != '\n' && c != EOF)
-        fail("a line is eleven numbers");
+        fail("a line is twelve numbers");
     return 1;
 }
 
@@ -44,10 +44,10 @@ static int read_pointing(int64_t n[11])
 static struct set work_set(void)
 {
     struct set set = {.count = 0};
-    int64_t n[11];
+    int64_t n[12];
     while (read_pointing(n)) {
         struct fieldbook_pointing_answer a = fieldbook_pointing(
-            n[0], n[1], n[2], n[3], n[4], n[5], n[6], n[7], n[8], n[9], n[10]);
+            n[0], n[1], n[2], n[3], n[4], n[5], n[6], n[7], n[8], n[9], n[10], n[11]);
         if (a.refusal != FIELDBOOK_ANSWERED) {
             printf("no %" PRIu64 "\n", a.refusal);
             continue;

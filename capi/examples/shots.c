@@ -1,14 +1,14 @@
-/* Works the shots of standard input, ten numbers to a line, and prints the angles or the refusal
-   of each. */
+/* Works the shots of standard input, eleven numbers to a line, and prints the angles or the
+   refusal of each. */
 #include "fieldbook.h"
 
 #include <inttypes.h>
 #include <stdio.h>
 
-/* Reads the ten numbers of the next shot; returns whether there was one. */
-static int read_shot(int64_t n[10])
+/* Reads the eleven numbers of the next shot; returns whether there was one. */
+static int read_shot(int64_t n[11])
 {
-    for (int i = 0; i < 10; i++)
+    for (int i = 0; i < 11; i++)
         if (scanf("%" SCNd64, &n[i]) != 1)
             return 0;
     return 1;
@@ -16,10 +16,10 @@ static int read_shot(int64_t n[10])
 
 int main(void)
 {
-    int64_t n[10];
+    int64_t n[11];
     while (read_shot(n)) {
         struct fieldbook_shot_answer a =
-            fieldbook_shot(n[0], n[1], n[2], n[3], n[4], n[5], n[6], n[7], n[8], n[9]);
+            fieldbook_shot(n[0], n[1], n[2], n[3], n[4], n[5], n[6], n[7], n[8], n[9], n[10]);
         if (a.refusal != FIELDBOOK_ANSWERED)
             printf("no %" PRIu64 "\n", a.refusal);
         else

@@ -1,6 +1,7 @@
-//! The arguments: angles that grow with time. Document 01, "Time" and its table.
+//! The arguments: angles that grow with ephemeris time. Document 01, "Time" and its table;
+//! document 02, request 3.
 
-use crate::calendar::{Instant, CENTURY};
+use crate::calendar::{Epoch, CENTURY};
 use crate::exact::{floor, floor_product, reduce, MILLION_SQUARED};
 
 /// The arguments of document 01, in the order of its table; then those of the
@@ -80,32 +81,32 @@ const COEFFICIENTS: [[i64; 3]; COUNT] = [
 /// An argument, reduced: c0, what c1 adds at N and what c2 adds at q, each of the two
 /// floored. Document 01, "Time".
 #[inline]
-pub fn argument(which: Argument, instant: &Instant) -> i64 {
+pub fn argument(which: Argument, epoch: &Epoch) -> i64 {
     let [c0, c1, c2] = COEFFICIENTS[which as usize];
-    let square = instant.millionths * instant.millionths;
+    let square = epoch.millionths * epoch.millionths;
     reduce(
-        c0 + floor_product(c1, instant.milliseconds, CENTURY) + floor(c2 * square, MILLION_SQUARED),
+        c0 + floor_product(c1, epoch.milliseconds, CENTURY) + floor(c2 * square, MILLION_SQUARED),
     )
 }
 
-/// The arguments that were worked for one instant.
+/// The arguments that were worked for one epoch.
 #[derive(Clone, Copy, Debug)]
 pub struct Arguments {
     angles: [i64; COUNT],
 }
 
 impl Arguments {
-    /// The arguments in `list` at an instant.
-    pub fn at(instant: &Instant, list: &[Argument]) -> Self {
+    /// The arguments in `list` at an epoch.
+    pub fn at(epoch: &Epoch, list: &[Argument]) -> Self {
         let mut arguments = Arguments { angles: [0; COUNT] };
-        arguments.extend(instant, list);
+        arguments.extend(epoch, list);
         arguments
     }
 
     /// Works the arguments in `list` too.
-    pub fn extend(&mut self, instant: &Instant, list: &[Argument]) {
+    pub fn extend(&mut self, epoch: &Epoch, list: &[Argument]) {
         for &which in list {
-            self.angles[which as usize] = argument(which, instant);
+            self.angles[which as usize] = argument(which, epoch);
         }
     }
 

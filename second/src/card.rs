@@ -1,6 +1,9 @@
-//! The card: what was heard, read out and confirmed of each field. Document 01, "The card".
+//! The card: what was heard, read out and confirmed of each field. Document 01, "The card";
+//! document 02, request 3.
 
 use crate::digits::text;
+#[cfg(test)]
+use crate::digits::LONGEST;
 use crate::fieldbook::{shot, Angles, Fields};
 use crate::refusal::Refusal;
 use crate::sine::Sine;
@@ -17,10 +20,10 @@ pub enum Field {
     Confirmed(i64),
 }
 
-/// The card: ten fields, field 1 first.
+/// The card: eleven fields, field 1 first.
 #[derive(Clone, Debug, PartialEq, Eq)]
 pub struct Card {
-    fields: [Field; 10],
+    fields: [Field; 11],
 }
 
 impl Default for Card {
@@ -32,13 +35,13 @@ impl Default for Card {
 impl Card {
     /// A fresh card: DUT1 is confirmed as 0, and the other fields are empty.
     pub fn fresh() -> Self {
-        let mut fields = [Field::Empty; 10];
+        let mut fields = [Field::Empty; 11];
         fields[6] = Field::Confirmed(0);
         Card { fields }
     }
 
     /// The fields, field 1 first.
-    pub fn fields(&self) -> &[Field; 10] {
+    pub fn fields(&self) -> &[Field; 11] {
         &self.fields
     }
 
@@ -82,7 +85,7 @@ impl Card {
 
     /// The shot from the card: refusal 1 unless every field is confirmed.
     pub fn shot(&self, sine: &Sine) -> Result<Angles, Refusal> {
-        let mut numbers: Fields = [0; 10];
+        let mut numbers: Fields = [0; 11];
         for (number, field) in numbers.iter_mut().zip(self.fields) {
             let Field::Confirmed(confirmed) = field else {
                 return Err(Refusal::FieldNotConfirmed);
@@ -92,11 +95,67 @@ impl Card {
         shot(sine, &numbers)
     }
 
-    /// The field of a number from 1 to 10, or refusal 9.
+    /// The field of a number from 1 to 11, or refusal 9.
     fn field(&mut self, field: i64) -> Result<&mut Field, Refusal> {
         match field {
-            1..=10 => Ok(&mut self.fields[field as usize - 1]),
+            1..=11 => Ok(&mut self.fields[field as usize - 1]),
             _ => Err(Refusal::NoSuchField),
+        }
+    }
+}
+
+#[cfg(test)]
+impl Card {
+    /// A card on which these numbers were heard, read and confirmed.
+    pub fn confirmed(numbers: &Fields) -> Self {
+        let mut card = Card::fresh();
+        for (field, &number) in (1..).zip(numbers) {
+            card.hear(field, number).unwrap();
+            card.read(field, 0, &mut [0; LONGEST]).unwrap();
+            card.confirm(field).unwrap();
+        }
+        card
+    }
+}
+
+#[cfg(test)]
+mod tests {
+    use super::*;
+
+    /// The Sun on 13 November 1978, answered in the outside vectors of shots.
+    const FIELDS: Fields = [1978, 11, 13, 16, 14, 55_172, -397, -1_338_869, -2_103_302, 1, 50_440];
+
+    /// A shot needs all eleven fields, whatever numbers stand in the others.
+    #[test]
+    fn every_field_must_be_confirmed() {
+        let sine = Sine::new();
+        let refused = Err(Refusal::FieldNotConfirmed);
+        for (field, number) in (1..).zip(FIELDS) {
+            let mut card = Card::confirmed(&FIELDS);
+            card.hear(field, number).unwrap();
+            assert_eq!(card.shot(&sine), refused);
+            card.read(field, 0, &mut [0; LONGEST]).unwrap();
+            assert_eq!(card.shot(&sine), refused);
+            card.confirm(field).unwrap();
+            assert_eq!(card.shot(&sine), shot(&sine, &FIELDS));
+        }
+        let mut card = Card::confirmed(&FIELDS);
+        card.fields[10] = Field::Empty;
+        assert_eq!(card.shot(&sine), refused);
+        let mut card = Card::confirmed(&[0; 11]);
+        assert_eq!(card.shot(&sine), Err(Refusal::NoSuchDate));
+        card.hear(11, 0).unwrap();
+        assert_eq!(card.shot(&sine), refused);
+    }
+
+    #[test]
+    fn field_numbers_run_from_1_to_11() {
+        let mut card = Card::fresh();
+        assert_eq!(card.hear(11, 120_001), Ok(()));
+        for field in [i64::MIN, -11, 0, 12, i64::MAX] {
+            assert_eq!(card.hear(field, 0), Err(Refusal::NoSuchField));
+            assert_eq!(card.read(field, 0, &mut [0; LONGEST]), Err(Refusal::NoSuchField));
+            assert_eq!(card.confirm(field), Err(Refusal::NoSuchField));
         }
     }
 }

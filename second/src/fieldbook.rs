@@ -1,5 +1,5 @@
-//! The shot with ten plain numbers. Document 01, "The card", "Refusal numbers" and the
-//! last sentence of "The horizon".
+//! The shot with eleven plain numbers. Document 01, "The card", "Refusal numbers" and the
+//! last sentence of "The horizon"; document 02, request 3.
 
 use crate::arguments::Arguments;
 use crate::calendar::{instant, Instant};
@@ -11,8 +11,8 @@ use crate::rotation::Direction;
 use crate::sine::Sine;
 use crate::sun::{sun, Sun, SUN_ARGUMENTS};
 
-/// The ten numbers of a shot, field 1 first.
-pub type Fields = [i64; 10];
+/// The eleven numbers of a shot, field 1 first.
+pub type Fields = [i64; 11];
 
 /// The largest latitude, 89 degrees in 0.1 seconds.
 pub const LARGEST_LATITUDE: i64 = 3_204_000;
@@ -71,10 +71,11 @@ impl Reduction {
     }
 }
 
-/// The instant, or the lowest refusal from 2 to 6 that applies.
+/// The instant, or the first of the refusals 2, 3, 4, 17, 5 and 6 that applies.
 pub fn check(fields: &Fields) -> Result<Instant, Refusal> {
-    let [year, month, day, hour, minute, millisecond, dut1, latitude, longitude, body] = *fields;
-    let instant = instant(&[year, month, day, hour, minute, millisecond, dut1])?;
+    let [year, month, day, hour, minute, millisecond, dut1, latitude, longitude, body, delta_t] =
+        *fields;
+    let instant = instant(&[year, month, day, hour, minute, millisecond, dut1, delta_t])?;
     let latitudes = -LARGEST_LATITUDE..=LARGEST_LATITUDE;
     let longitudes = 1 - LARGEST_LONGITUDE..=LARGEST_LONGITUDE;
     if !latitudes.contains(&latitude) || !longitudes.contains(&longitude) {
@@ -86,23 +87,24 @@ pub fn check(fields: &Fields) -> Result<Instant, Refusal> {
     Ok(instant)
 }
 
-/// Works a shot to the components in the horizon's frame, or refusals 2 to 6.
+/// Works a shot to the components in the horizon's frame, or the refusals of `check`.
 pub fn reduction(sine: &Sine, fields: &Fields) -> Result<Reduction, Refusal> {
     let instant = check(fields)?;
-    let mut arguments = Arguments::at(&instant, &FRAME_ARGUMENTS);
+    let ephemeris = &instant.ephemeris;
+    let mut arguments = Arguments::at(ephemeris, &FRAME_ARGUMENTS);
     let frame = frame(sine, &instant, &arguments);
     let body = if fields[9] == 1 {
-        arguments.extend(&instant, &SUN_ARGUMENTS);
-        Body::Sun(sun(sine, &arguments, instant.millionths, &frame))
+        arguments.extend(ephemeris, &SUN_ARGUMENTS);
+        Body::Sun(sun(sine, &arguments, ephemeris.millionths, &frame))
     } else {
-        Body::Polaris(polaris(sine, &instant, &arguments, &frame))
+        Body::Polaris(polaris(sine, ephemeris, &arguments, &frame))
     };
     let direction = body.direction();
     let components = components(sine, direction, frame.sidereal_time, fields[7], fields[8]);
     Ok(Reduction { instant, arguments, frame, body, components })
 }
 
-/// The shot: four angles, or the lowest refusal from 2 to 8 that applies.
+/// The shot: four angles, or the first refusal of `check`, then 7, 8, that applies.
 pub fn shot(sine: &Sine, fields: &Fields) -> Result<Angles, Refusal> {
     let reduction = reduction(sine, fields)?;
     let angles = reduction.horizon_angles(sine)?;
@@ -116,4 +118,54 @@ pub fn shot(sine: &Sine, fields: &Fields) -> Result<Angles, Refusal> {
         hour_angle: angles.hour_angle,
         apparent_longitude,
     })
+}
+
+#[cfg(test)]
+mod tests {
+    use super::*;
+    use crate::calendar::LARGEST_DELTA_T;
+
+    /// The Sun under the horizon on 5 April 2032, in the outside vectors of shots.
+    const BELOW: Fields = [2032, 4, 5, 6, 57, 23_842, -110, 2_361_414, -5_689_280, 1, 0];
+
+    /// The refusal of these fields.
+    fn refusal(fields: &Fields) -> Option<Refusal> {
+        shot(&Sine::new(), fields).err()
+    }
+
+    /// A bad number in one field more at a time, the last test first: each refusal is given
+    /// before those behind it.
+    #[test]
+    fn refusals_in_their_order() {
+        let mut fields = BELOW;
+        assert_eq!(refusal(&fields), Some(Refusal::BelowHorizon));
+        let spoiled = [
+            (9, 3, Refusal::NoSuchBody),
+            (8, 6_480_001, Refusal::PositionOutOfRange),
+            (7, 3_204_001, Refusal::PositionOutOfRange),
+            (10, 120_001, Refusal::DeltaTOutOfRange),
+            (6, 901, Refusal::Dut1OutOfRange),
+            (5, 60_000, Refusal::TimeNotAllowed),
+            (2, 32, Refusal::NoSuchDate),
+        ];
+        for (place, number, expected) in spoiled {
+            fields[place] = number;
+            assert_eq!(refusal(&fields), Some(expected));
+        }
+    }
+
+    #[test]
+    fn delta_t_at_its_limits() {
+        let with = |delta_t| {
+            let mut fields = BELOW;
+            fields[10] = delta_t;
+            refusal(&fields)
+        };
+        for accepted in [0, LARGEST_DELTA_T] {
+            assert_eq!(with(accepted), Some(Refusal::BelowHorizon));
+        }
+        for bad in [i64::MIN, -1, LARGEST_DELTA_T + 1, i64::MAX] {
+            assert_eq!(with(bad), Some(Refusal::DeltaTOutOfRange));
+        }
+    }
 }

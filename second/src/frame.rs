@@ -1,7 +1,8 @@
-//! Nutation, obliquity and sidereal time. Document 01, "The Sun" (nutation) and "Time".
+//! Nutation, obliquity and sidereal time. Document 01, "The Sun" (nutation) and "Time";
+//! document 02, request 3.
 
 use crate::arguments::{Argument, Arguments};
-use crate::calendar::{Instant, CENTURY, HALF_DAY};
+use crate::calendar::{Epoch, Instant, CENTURY, HALF_DAY};
 use crate::exact::{floor, floor_product, over_scale, reduce, MILLION_SQUARED};
 use crate::series::{sum, Amplitude, Function, List, Term};
 use crate::sine::Sine;
@@ -73,9 +74,10 @@ pub struct Frame {
     pub sidereal_time: i64,
 }
 
-/// The frame at an instant; `arguments` holds `FRAME_ARGUMENTS`.
+/// The frame at an instant; `arguments` holds `FRAME_ARGUMENTS` by ephemeris time. All but
+/// the mean sidereal time goes by it, the equation of the equinoxes too.
 pub fn frame(sine: &Sine, instant: &Instant, arguments: &Arguments) -> Frame {
-    let q = instant.millionths;
+    let q = instant.ephemeris.millionths;
     let nutation_in_longitude = sum(sine, &[&NUTATION_IN_LONGITUDE], arguments, q);
     let nutation_in_obliquity = sum(sine, &[&NUTATION_IN_OBLIQUITY], arguments, q);
     let mean_obliquity = arguments.get(MeanObliquity);
@@ -86,15 +88,49 @@ pub fn frame(sine: &Sine, instant: &Instant, arguments: &Arguments) -> Frame {
         nutation_in_obliquity,
         mean_obliquity,
         obliquity,
-        sidereal_time: reduce(mean_sidereal_time(instant) + equation_of_equinoxes),
+        sidereal_time: reduce(mean_sidereal_time(&instant.universal) + equation_of_equinoxes),
     }
 }
 
-/// Newcomb's mean sidereal time at longitude 0, not yet reduced.
-fn mean_sidereal_time(instant: &Instant) -> i64 {
-    let Instant { milliseconds, millionths } = *instant;
+/// Newcomb's mean sidereal time at longitude 0 and an epoch of UT1, not yet reduced.
+fn mean_sidereal_time(epoch: &Epoch) -> i64 {
+    let Epoch { milliseconds, millionths } = *epoch;
     UNITS_A_MILLISECOND * (milliseconds + HALF_DAY)
         + SIDEREAL_C0
         + floor_product(SIDEREAL_C1, milliseconds, CENTURY)
         + floor(SIDEREAL_C2 * millionths * millionths, MILLION_SQUARED)
+}
+
+#[cfg(test)]
+mod tests {
+    use super::*;
+    use crate::calendar::instant;
+
+    /// The sidereal time where these are the two times of an instant.
+    fn sidereal_time(universal: Epoch, ephemeris: Epoch) -> i64 {
+        let arguments = Arguments::at(&ephemeris, &FRAME_ARGUMENTS);
+        frame(&Sine::new(), &Instant { universal, ephemeris }, &arguments).sidereal_time
+    }
+
+    /// 12 October 2004 in the outside vectors of parts. By ET alone it would be far later; with
+    /// the nutation by UT1 too, two units.
+    #[test]
+    fn mean_part_by_ut1_and_nutation_by_et() {
+        let Instant { universal, ephemeris } =
+            instant(&[2004, 10, 12, 19, 50, 58_778, 0, 103_000]).unwrap();
+        assert_eq!(sidereal_time(universal, ephemeris), 11_500_749_914);
+        assert_eq!(sidereal_time(ephemeris, ephemeris), 11_516_242_215);
+        assert_eq!(sidereal_time(universal, universal), 11_500_749_916);
+    }
+
+    /// A millisecond before q is a million, one of ΔT takes only the other q there.
+    #[test]
+    fn square_by_the_q_of_ut1() {
+        let Instant { universal, ephemeris } =
+            instant(&[2000, 1, 1, 11, 59, 59_999, 0, 1]).unwrap();
+        assert_eq!((universal.millionths, ephemeris.millionths), (999_999, 1_000_000));
+        assert_eq!(sidereal_time(universal, ephemeris), sidereal_time(universal, universal));
+        let other_q = Epoch { millionths: ephemeris.millionths, ..universal };
+        assert_eq!(mean_sidereal_time(&other_q), mean_sidereal_time(&universal) + 1);
+    }
 }

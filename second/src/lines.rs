@@ -26,6 +26,12 @@ pub fn all_numbers(line: &[u8]) -> Result<Vec<i64>, Refusal> {
     words(line).into_iter().map(|word| number(word, MOST_DIGITS)).collect()
 }
 
+/// A line of the vectors, whose numbers reach to the ends of 64 bits, or refusal 14.
+pub fn vector_numbers(line: &[u8]) -> Result<Vec<i64>, Refusal> {
+    let text = str::from_utf8(line).map_err(|_| Refusal::MalformedLine)?;
+    text.split(' ').map(|word| word.parse().map_err(|_| Refusal::MalformedLine)).collect()
+}
+
 /// A line of exactly `COUNT` plain numbers, or refusal 14.
 pub fn numbers<const COUNT: usize>(line: &[u8]) -> Result<[i64; COUNT], Refusal> {
     all_numbers(line)?.try_into().map_err(|_| Refusal::MalformedLine)

@@ -22,21 +22,21 @@ use std::thread;
 
 const USAGE: &str = "\
 usage: second COMMAND, from standard input to standard output, a line for a line
-  shots                       ten numbers -> az A zd Z ha H s S, or no N
-  pointings                   ten numbers and the horizontal angle -> mark M, or no N
+  shots                       eleven numbers -> az A zd Z ha H s S, or no N
+  pointings                   eleven numbers and the horizontal angle -> mark M, or no N
   session                     document 01's session
-  parts                       ten numbers -> every step by name
-  longitude                   fields 1 to 7 -> s, polynomial longitude, bound
+  parts                       eleven numbers -> every step by name
+  longitude                   fields 1 to 7 and 11 -> s, polynomial longitude, bound
   sine                        a -> Sin(a) Cos(a)
   angle                       x y -> angle(x, y)
   choice                      two lists -> refusal, which list, its length
   card                        fresh, hear, read, confirm, shot, pointing -> result and card
   count-refusals              answers of the first three -> how often each was given
 without input:
-  random-shots SEED COUNT     lines of ten numbers
-  random-pointings SEED COUNT lines of eleven numbers
+  random-shots SEED COUNT     lines of eleven numbers
+  random-pointings SEED COUNT lines of twelve numbers
   random-lines SEED COUNT     the lines of a session, good and damaged
-  bench-shots                 the shots that bench times, as lines of ten numbers
+  bench-shots                 the shots that bench times, as lines of eleven numbers
   bench COUNT [sun|polaris]   nanoseconds per shot, of both bodies or one
   compare-shots SEED COUNT PROGRAM...     PROGRAM's answers to random-shots with these
   compare-pointings SEED COUNT PROGRAM... the same for random-pointings

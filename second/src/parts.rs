@@ -1,9 +1,9 @@
 //! All intermediate numbers of a shot by name, as the outside vectors write them.
 
 use crate::arguments::{Arguments, ALL};
+use crate::calendar::Instant;
 use crate::exact::reduce;
 use crate::fieldbook::{reduction, Body, Fields, Reduction};
-use crate::frame::Frame;
 use crate::horizon::{Components, HorizonAngles};
 use crate::polaris::Polaris;
 use crate::refusal::Refusal;
@@ -37,7 +37,7 @@ pub fn parts(sine: &Sine, fields: &Fields) -> Result<String, Refusal> {
     let angles = shot.horizon_angles(sine)?;
     let mut listing = Listing(Vec::new());
     time(&mut listing, &shot);
-    orientation(&mut listing, &shot.frame, shot.instant.millionths);
+    orientation(&mut listing, &shot);
     match &shot.body {
         Body::Sun(place) => sun(&mut listing, sine, &shot, place),
         Body::Polaris(place) => polaris(&mut listing, place),
@@ -47,30 +47,32 @@ pub fn parts(sine: &Sine, fields: &Fields) -> Result<String, Refusal> {
     Ok(listing.0.join(" "))
 }
 
-/// N twice (the vectors leave room for an ephemeris time), q and every argument.
+/// N of both times, q of the ephemeris one and every argument.
 fn time(listing: &mut Listing, shot: &Reduction) {
-    let arguments = Arguments::at(&shot.instant, &ALL);
-    listing.number("N", shot.instant.milliseconds);
-    listing.number("Ne", shot.instant.milliseconds);
-    listing.number("q", shot.instant.millionths);
+    let Instant { universal, ephemeris } = shot.instant;
+    let arguments = Arguments::at(&ephemeris, &ALL);
+    listing.number("N", universal.milliseconds);
+    listing.number("Ne", ephemeris.milliseconds);
+    listing.number("q", ephemeris.millionths);
     for (name, which) in ARGUMENT_NAMES.into_iter().zip(ALL) {
         listing.number(name, arguments.get(which));
     }
 }
 
-/// Nutation, obliquity and sidereal time.
-fn orientation(listing: &mut Listing, frame: &Frame, q: i64) {
+/// Nutation, obliquity and sidereal time with the q of its own time.
+fn orientation(listing: &mut Listing, shot: &Reduction) {
+    let Reduction { instant, frame, .. } = shot;
     listing.number("dpsi", frame.nutation_in_longitude);
     listing.number("deps", frame.nutation_in_obliquity);
     listing.number("mean_obliquity", frame.mean_obliquity);
     listing.number("eps", reduce(frame.obliquity));
-    listing.number("sidereal_q", q);
+    listing.number("sidereal_q", instant.universal.millionths);
     listing.number("sidereal", frame.sidereal_time);
 }
 
 /// The Sun's sums and longitude.
 fn sun(listing: &mut Listing, sine: &Sine, shot: &Reduction, place: &Sun) {
-    let centre = sum(sine, &[&CENTRE], &shot.arguments, shot.instant.millionths);
+    let centre = sum(sine, &[&CENTRE], &shot.arguments, shot.instant.ephemeris.millionths);
     listing.number("first_sum", place.first_sum);
     listing.number("centre", centre);
     listing.number("aberration", ABERRATION);

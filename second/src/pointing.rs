@@ -16,12 +16,12 @@ fn mark(shot: Result<Angles, Refusal>, angle: i64) -> Result<i64, Refusal> {
     Ok(reduce(azimuth - angle))
 }
 
-/// The pointing with ten plain numbers; refusals 2 to 8 of the shot, then 15.
+/// The pointing with eleven plain numbers; the refusals of the shot, then 15.
 pub fn pointing(sine: &Sine, fields: &Fields, angle: i64) -> Result<i64, Refusal> {
     mark(shot(sine, fields), angle)
 }
 
-/// The pointing from a card; refusals 1 to 8 of the shot, then 15.
+/// The pointing from a card; the refusals of the shot from it, then 15.
 pub fn pointing_from_card(sine: &Sine, card: &Card, angle: i64) -> Result<i64, Refusal> {
     mark(card.shot(sine), angle)
 }
@@ -29,29 +29,17 @@ pub fn pointing_from_card(sine: &Sine, card: &Card, angle: i64) -> Result<i64, R
 #[cfg(test)]
 mod tests {
     use super::*;
-    use crate::digits::LONGEST;
     use crate::exact::TURN;
 
-    /// The Sun on 21 March 1976.
-    const FIELDS: Fields = [1976, 3, 21, 19, 31, 44_080, -758, 1_795_363, -1_612_009, 1];
+    /// The Sun on 13 November 1978.
+    const FIELDS: Fields = [1978, 11, 13, 16, 14, 55_172, -397, -1_338_869, -2_103_302, 1, 50_440];
     /// Its azimuth in the outside vectors of shots.
-    const AZIMUTH: i64 = 9_066_567_473;
-
-    /// A card on which these numbers are confirmed.
-    fn confirmed(fields: &Fields) -> Card {
-        let mut card = Card::fresh();
-        for (field, &number) in (1..).zip(fields) {
-            card.hear(field, number).unwrap();
-            card.read(field, 0, &mut [0; LONGEST]).unwrap();
-            card.confirm(field).unwrap();
-        }
-        card
-    }
+    const AZIMUTH: i64 = 12_046_322_177;
 
     #[test]
     fn angle_is_subtracted_and_reduced() {
         let sine = Sine::new();
-        let card = confirmed(&FIELDS);
+        let card = Card::confirmed(&FIELDS);
         let marks = [
             (0, AZIMUTH),
             (1, AZIMUTH - 1),
@@ -73,10 +61,10 @@ mod tests {
         for angle in [-1, TURN, i64::MIN, i64::MAX] {
             let refused = Err(Refusal::AngleOutOfRange);
             assert_eq!(pointing(&sine, &FIELDS, angle), refused);
-            assert_eq!(pointing_from_card(&sine, &confirmed(&FIELDS), angle), refused);
+            assert_eq!(pointing_from_card(&sine, &Card::confirmed(&FIELDS), angle), refused);
             let refused = Err(Refusal::NoSuchBody);
             assert_eq!(pointing(&sine, &unknown, angle), refused);
-            assert_eq!(pointing_from_card(&sine, &confirmed(&unknown), angle), refused);
+            assert_eq!(pointing_from_card(&sine, &Card::confirmed(&unknown), angle), refused);
             let refused = Err(Refusal::FieldNotConfirmed);
             assert_eq!(pointing_from_card(&sine, &Card::fresh(), angle), refused);
         }

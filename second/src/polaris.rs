@@ -1,8 +1,8 @@
-//! Polaris: the FK4 place, proper motion, precession, nutation and aberration.
-//! Document 01, "Polaris".
+//! Polaris: the FK4 place, proper motion, precession, nutation and aberration, all by
+//! ephemeris time. Document 01, "Polaris"; document 02, request 3.
 
 use crate::arguments::Arguments;
-use crate::calendar::Instant;
+use crate::calendar::Epoch;
 use crate::exact::{floor, over_scale, MILLION, MILLION_SQUARED};
 use crate::frame::Frame;
 use crate::rotation::{r1, r2, r3, Direction};
@@ -28,7 +28,7 @@ const THETA: [i64; 2] = [20_040_423, -4_260];
 /// Stellar aberration, 20.496 seconds in radians times R, 99,367.4 (01).
 const ABERRATION: i64 = 99_367;
 
-/// The place of Polaris at an instant, with its steps.
+/// The place of Polaris at an epoch, with its steps.
 #[derive(Clone, Copy, Debug)]
 pub struct Polaris {
     /// p, millionths of a tropical century since 1975.0.
@@ -76,8 +76,8 @@ fn aberration(sine: &Sine, g: i64, obliquity: i64) -> Direction {
 }
 
 /// The place of Polaris; `arguments` holds those of the frame.
-pub fn polaris(sine: &Sine, instant: &Instant, arguments: &Arguments, frame: &Frame) -> Polaris {
-    let p = floor(MILLION * (instant.milliseconds - EPOCH), TROPICAL_CENTURY);
+pub fn polaris(sine: &Sine, epoch: &Epoch, arguments: &Arguments, frame: &Frame) -> Polaris {
+    let p = floor(MILLION * (epoch.milliseconds - EPOCH), TROPICAL_CENTURY);
     let right_ascension = with_motion(RIGHT_ASCENSION, p);
     let declination = with_motion(DECLINATION, p);
     let zeta = growth(ZETA[0], ZETA[1], p);
@@ -85,7 +85,7 @@ pub fn polaris(sine: &Sine, instant: &Instant, arguments: &Arguments, frame: &Fr
     let theta = growth(THETA[0], THETA[1], p);
     let catalogue = toward(sine, right_ascension, declination);
     let before_aberration = true_place(sine, catalogue, [zeta, theta, z], frame);
-    let sun_longitude = longitude_with_centre(sine, arguments, instant.millionths);
+    let sun_longitude = longitude_with_centre(sine, arguments, epoch.millionths);
     let added = aberration(sine, sun_longitude, frame.obliquity);
     Polaris {
         millionths: p,

@@ -3,7 +3,7 @@
 
 use crate::counts::{answered_or, Outcome};
 use crate::fieldbook::{shot, Fields};
-use crate::lines::{all_numbers, joined};
+use crate::lines::{all_numbers, joined, vector_numbers};
 use crate::pointing::pointing;
 use crate::random::{pointing_numbers, shot_fields, Random};
 use crate::random_choices::lists;
@@ -69,12 +69,17 @@ pub fn answer_text((refusal, values): &(u64, impl AsRef<[u64]>)) -> String {
     format!("{refusal} {}", joined(values.as_ref()))
 }
 
-/// The question of a line, or refusal 14.
+/// The question of a batch program's line, or refusal 14.
 pub fn asked<Q: Question>(line: &[u8]) -> Result<Q, Refusal> {
     Q::from_numbers(&all_numbers(line)?)
 }
 
-/// A shot with ten numbers.
+/// The question of a line of the vectors, or refusal 14.
+pub fn asked_by_vector<Q: Question>(line: &[u8]) -> Result<Q, Refusal> {
+    Q::from_numbers(&vector_numbers(line)?)
+}
+
+/// A shot with eleven numbers.
 #[derive(Clone, Copy, Debug)]
 pub struct Shot {
     pub fields: Fields,
@@ -85,7 +90,7 @@ impl Question for Shot {
     const REFUSED: [u64; 4] = [0; 4];
 
     fn outcomes() -> Vec<Outcome> {
-        answered_or(2..=8)
+        answered_or((2..=8).chain([17]))
     }
 
     fn random(random: &mut Random, sine: &Sine) -> Self {
@@ -110,7 +115,7 @@ impl BatchQuestion for Shot {
     const NAMES: &'static [&'static str] = &["az", "zd", "ha", "s"];
 }
 
-/// A pointing with ten numbers and the horizontal angle.
+/// A pointing with eleven numbers and the horizontal angle.
 #[derive(Clone, Copy, Debug)]
 pub struct Pointing {
     pub fields: Fields,

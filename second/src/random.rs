@@ -1,6 +1,7 @@
 //! Seeded random shots and pointings, to compare the proved book with this program.
 
 use crate::angle::angle;
+use crate::calendar::LARGEST_DELTA_T;
 use crate::exact::{reduce, square_root, QUADRANT, SCALE, TURN};
 use crate::fieldbook::{reduction, shot, Fields, LARGEST_LATITUDE, LARGEST_LONGITUDE};
 use crate::rotation::Direction;
@@ -44,7 +45,7 @@ impl Random {
 }
 
 /// The accepted range of each field, the first three as a range of dates that exist.
-const RANGES: [(i64, i64); 10] = [
+const RANGES: [(i64, i64); 11] = [
     (1976, 2049),
     (1, 12),
     (1, 28),
@@ -55,6 +56,7 @@ const RANGES: [(i64, i64); 10] = [
     (-LARGEST_LATITUDE, LARGEST_LATITUDE),
     (1 - LARGEST_LONGITUDE, LARGEST_LONGITUDE),
     (1, 2),
+    (0, LARGEST_DELTA_T),
 ];
 
 /// Numbers that no field accepts or that lie at the ends of their types.
@@ -109,7 +111,7 @@ const EDGE_DATES: [[i64; 3]; 28] = [
 
 /// A shot of one of the kinds below, chosen at random.
 pub fn shot_fields(random: &mut Random, sine: &Sine) -> Fields {
-    match random.between(0, 9) {
+    match random.between(0, 10) {
         0..=2 => accepted(random),
         3 => edges(random),
         4 => dates(random),
@@ -117,6 +119,7 @@ pub fn shot_fields(random: &mut Random, sine: &Sine) -> Fields {
         6 => polar(random),
         7 => near_zenith(random, sine),
         8 => near_horizon(random, sine),
+        9 => delta_t_edges(random),
         _ => any_numbers(random),
     }
 }
@@ -140,7 +143,7 @@ pub fn any_size(random: &mut Random) -> i64 {
     random.bits() as i64 >> random.between(0, 63)
 }
 
-/// Uniform in every field: refusals 2 to 6 don't apply.
+/// Uniform in every field: refusals 2 to 6 and 17 don't apply.
 pub fn accepted(random: &mut Random) -> Fields {
     let mut fields = RANGES.map(|(low, high)| random.between(low, high));
     let longest = match fields[1] {
@@ -152,12 +155,12 @@ pub fn accepted(random: &mut Random) -> Fields {
     fields
 }
 
-/// Uniform, but one to three fields, fields 7 to 10 most often, at an edge.
+/// Uniform, but one to three fields, fields 7 to 11 most often, at an edge.
 fn edges(random: &mut Random) -> Fields {
     let mut fields = accepted(random);
     for _ in 0..random.between(1, 3) {
         let first = random.choose(&[0, 6]);
-        let place = random.between(first, 9) as usize;
+        let place = random.between(first, 10) as usize;
         fields[place] = edge_number(random, place);
     }
     fields
@@ -171,6 +174,16 @@ pub fn edge_number(random: &mut Random, place: usize) -> i64 {
         1 => low + random.between(-1, 1),
         _ => high + random.between(-1, 1),
     }
+}
+
+/// ΔT at an edge, most often with one of fields 6 to 10 at one too: refusal 17 stands
+/// between 4 and 5 in the order of tests.
+fn delta_t_edges(random: &mut Random) -> Fields {
+    let mut fields = accepted(random);
+    for place in [10, random.between(5, 10) as usize] {
+        fields[place] = edge_number(random, place);
+    }
+    fields
 }
 
 /// Dates around the calendar's rules, or any day of 0 .. 32.
@@ -211,7 +224,7 @@ fn polar(random: &mut Random) -> Fields {
     fields
 }
 
-/// Ten numbers from the ends of the types, or of any size.
+/// Eleven numbers, some from the ends of the types or of any size.
 fn any_numbers(random: &mut Random) -> Fields {
     let mut fields = accepted(random);
     for field in &mut fields {

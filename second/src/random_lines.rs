@@ -53,7 +53,7 @@ impl<'a> Lines<'a> {
     /// fields are still empty.
     fn group(&mut self) -> Vec<Vec<u8>> {
         if self.made == 0 {
-            return (1..=10).map(|field| format!("R {field}").into_bytes()).collect();
+            return (1..=11).map(|field| format!("R {field}").into_bytes()).collect();
         }
         if self.made < 100 {
             return vec![self.loose_call()];
@@ -67,7 +67,7 @@ impl<'a> Lines<'a> {
         }
     }
 
-    /// All ten fields heard, read and confirmed, then a shot.
+    /// All eleven fields heard, read and confirmed, then a shot.
     fn new_shot(&mut self) -> Vec<Vec<u8>> {
         let fields = self.hearable_shot();
         let mut lines = Vec::new();
@@ -83,7 +83,7 @@ impl<'a> Lines<'a> {
         let fields = self.hearable_shot();
         let mut lines = Vec::new();
         for _ in 0..self.random.between(1, 3) {
-            let place = self.random.between(0, 9);
+            let place = self.random.between(0, 10);
             lines.extend(self.enter(place + 1, fields[place as usize]));
             if self.random.once_in(10) {
                 lines.remove(self.random.between(0, lines.len() as i64 - 1) as usize);
@@ -95,7 +95,7 @@ impl<'a> Lines<'a> {
 
     /// One field entered with a number at its edge, then a shot.
     fn edge_field(&mut self) -> Vec<Vec<u8>> {
-        let place = self.random.between(3, 9);
+        let place = self.random.between(3, 10);
         let number = loop {
             let number = edge_number(&mut self.random, place as usize);
             if is_hearable(number) {
@@ -107,7 +107,7 @@ impl<'a> Lines<'a> {
         lines
     }
 
-    /// The ten numbers of a random shot whose numbers can all be heard.
+    /// The eleven numbers of a random shot whose numbers can all be heard.
     fn hearable_shot(&mut self) -> Fields {
         loop {
             let fields = shot_fields(&mut self.random, self.sine);
@@ -142,8 +142,8 @@ impl<'a> Lines<'a> {
     /// One call with any field number and any number.
     fn loose_call(&mut self) -> Vec<u8> {
         let field = match self.random.between(0, 9) {
-            0 => self.random.choose(&[-999_999_999, -3, -1, 0, 11, 12, 99, 999_999_999]),
-            _ => self.random.between(1, 10),
+            0 => self.random.choose(&[-999_999_999, -3, -1, 0, 12, 13, 99, 999_999_999]),
+            _ => self.random.between(1, 11),
         };
         let field = self.written(field);
         match self.random.between(0, 9) {
@@ -174,7 +174,7 @@ impl<'a> Lines<'a> {
                 let length = self.random.between(100, 70_000) as usize;
                 [b"H 1 ", vec![self.random.choose(b"05 -H\0\xc3"); length].as_slice()].concat()
             }
-            1..=3 => format!("R {:010}", self.random.between(-5, 10)).into_bytes(),
+            1..=3 => format!("R {:010}", self.random.between(-5, 11)).into_bytes(),
             4..=6 => {
                 let length = self.random.between(0, 20);
                 (0..length).map(|_| self.any_byte()).collect()

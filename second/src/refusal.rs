@@ -1,4 +1,4 @@
-//! The refusals. Document 01, "Refusal numbers", and document 02, request 1.
+//! The refusals. Document 01, "Refusal numbers", and document 02, requests 1 and 3.
 
 /// A refusal; its number in the documents is its value.
 #[derive(Clone, Copy, Debug, PartialEq, Eq)]
@@ -19,6 +19,7 @@ pub enum Refusal {
     MalformedLine = 14,
     AngleOutOfRange = 15,
     LengthOutOfRange = 16,
+    DeltaTOutOfRange = 17,
 }
 
 impl Refusal {

@@ -9,7 +9,7 @@ use crate::lines::{joined, number, numbers, words, MOST_DIGITS};
 use crate::parts::parts;
 use crate::pointing::pointing_from_card;
 use crate::polynomial::Polynomial;
-use crate::question::{answer_text, asked, BatchQuestion, Question};
+use crate::question::{answer_text, asked, asked_by_vector, BatchQuestion, Question};
 use crate::refusal::Refusal;
 use crate::sine::Sine;
 use crate::sun::{polynomial_longitude, sun};
@@ -34,12 +34,12 @@ pub fn batch_line<Q: BatchQuestion>(sine: &Sine, line: &[u8]) -> String {
     }
 }
 
-/// The numbers of a question -> the refusal's number, 0 for none, and the answer's values.
+/// The numbers of a vector's question -> the refusal's number, 0 for none, and the answer's values.
 pub fn question_line<Q: Question>(sine: &Sine, line: &[u8]) -> Result<String, Refusal> {
-    Ok(answer_text(&Q::as_library(asked::<Q>(line)?.answer(sine))))
+    Ok(answer_text(&Q::as_library(asked_by_vector::<Q>(line)?.answer(sine))))
 }
 
-/// Ten numbers -> every step by name.
+/// Eleven numbers -> every step by name.
 pub fn parts_line(sine: &Sine, line: &[u8]) -> Result<String, Refusal> {
     parts(sine, &numbers(line)?)
 }
@@ -56,15 +56,15 @@ pub fn angle_line(sine: &Sine, line: &[u8]) -> Result<String, Refusal> {
     Ok(angle(sine, x, y).to_string())
 }
 
-/// Fields 1 to 7 -> s, the polynomial longitude and the bound; or refusals 2, 3, 4.
+/// Fields 1 to 7 and 11 -> s, the polynomial longitude and the bound; or refusals 2, 3, 4, 17.
 pub fn longitude_line(
     sine: &Sine,
     polynomial: &Polynomial,
     line: &[u8],
 ) -> Result<String, Refusal> {
     let instant = instant(&numbers(line)?)?;
-    let q = instant.millionths;
-    let arguments = Arguments::at(&instant, &ALL);
+    let q = instant.ephemeris.millionths;
+    let arguments = Arguments::at(&instant.ephemeris, &ALL);
     let frame = frame(sine, &instant, &arguments);
     let s = sun(sine, &arguments, q, &frame).apparent_longitude;
     let exact = polynomial_longitude(polynomial, &arguments, q);
@@ -160,17 +160,17 @@ mod tests {
         let sine = Sine::new();
         let mut card = Card::fresh();
         let mut answer = |line: &str| card_line(&sine, &mut card, line.as_bytes());
-        let fresh = "| e e e e e e c0 e e e";
+        let fresh = "| e e e e e e c0 e e e e";
         assert_eq!(answer("pointing -1"), Ok(format!("1 0 {fresh}")));
-        let fields = [1976, 3, 21, 19, 31, 44_080, -758, 1_795_363, -1_612_009, 1];
+        let fields = [1978, 11, 13, 16, 14, 55_172, -397, -1_338_869, -2_103_302, 1, 50_440];
         for (field, number) in (1..).zip(fields) {
             for call in ["hear F N", "read F 0 000000000000000000000000000000", "confirm F"] {
                 let call = call.replace('F', &format!("{field}"));
                 assert!(answer(&call.replace('N', &format!("{number}"))).is_ok());
             }
         }
-        let confirmed = "| c1976 c3 c21 c19 c31 c44080 c-758 c1795363 c-1612009 c1";
-        assert_eq!(answer("pointing 473"), Ok(format!("0 9066567000 {confirmed}")));
+        let confirmed = "| c1978 c11 c13 c16 c14 c55172 c-397 c-1338869 c-2103302 c1 c50440";
+        assert_eq!(answer("pointing 177"), Ok(format!("0 12046322000 {confirmed}")));
         assert_eq!(answer("pointing -1"), Ok(format!("15 0 {confirmed}")));
         for line in ["pointing", "pointing  5", "pointing 5 5", "pointing x"] {
             assert_eq!(answer(line), Err(Refusal::MalformedLine));

@@ -2,7 +2,7 @@
 
 use second::card::Card;
 use second::polynomial::Polynomial;
-use second::question::{asked, Choice, Pointing, Shot};
+use second::question::{asked_by_vector, Choice, Pointing, Shot};
 use second::refusal::Refusal;
 use second::replay;
 use second::session;
@@ -23,13 +23,13 @@ fn agree(file: &str, count: usize, mut answer: impl FnMut(&[u8]) -> Result<Strin
 #[test]
 fn shot_vectors() {
     let sine = Sine::new();
-    agree(include_str!("data/shot.txt"), 1_540, |line| replay::question_line::<Shot>(&sine, line));
+    agree(include_str!("data/shot.txt"), 2_000, |line| replay::question_line::<Shot>(&sine, line));
 }
 
 #[test]
 fn pointing_vectors() {
     let sine = Sine::new();
-    agree(include_str!("data/pointing.txt"), 400, |line| {
+    agree(include_str!("data/pointing.txt"), 200, |line| {
         replay::question_line::<Pointing>(&sine, line)
     });
 }
@@ -47,7 +47,7 @@ fn choice_vectors() {
 #[test]
 fn choice_vectors_without_a_copy() {
     agree(include_str!("data/choice.txt"), 160, |line| {
-        let Choice { first, second } = asked(line)?;
+        let Choice { first, second } = asked_by_vector(line)?;
         let Chosen { list, part } = choose(&first, &second);
         let lists = [first.as_ptr(), second.as_ptr()];
         let place = lists.iter().position(|&start| start == part.as_ptr()).expect("a list");
@@ -59,7 +59,7 @@ fn choice_vectors_without_a_copy() {
 #[test]
 fn parts_vectors() {
     let sine = Sine::new();
-    agree(include_str!("data/parts.txt"), 12, |line| replay::parts_line(&sine, line));
+    agree(include_str!("data/parts.txt"), 60, |line| replay::parts_line(&sine, line));
 }
 
 #[test]
@@ -86,14 +86,14 @@ fn longitude_vectors() {
 fn card_vectors() {
     let sine = Sine::new();
     let mut card = Card::fresh();
-    agree(include_str!("data/card.txt"), 899, |line| replay::card_line(&sine, &mut card, line));
+    agree(include_str!("data/card.txt"), 975, |line| replay::card_line(&sine, &mut card, line));
 }
 
 /// One session of the file: input lines and answers.
 fn compare_session(sine: &Sine, text: &str) {
     let side = |mark: char| -> Vec<String> {
         let lines = text.lines().filter_map(|line| line.strip_prefix(mark));
-        lines.map(|line| line.replace("\\r", "\r")).collect()
+        lines.map(|line| line.replace("\\r", "\r").replace("\\t", "\t")).collect()
     };
     let mut input = side('<').join("\n");
     if !text.contains("# last line without newline") {
@@ -111,7 +111,7 @@ fn session_vectors() {
     let sine = Sine::new();
     let sessions: Vec<&str> =
         include_str!("../../compare/sessions.txt").split_terminator("--\n").collect();
-    assert_eq!(sessions.len(), 6);
+    assert_eq!(sessions.len(), 25);
     for text in sessions {
         compare_session(&sine, text);
     }

@@ -2,8 +2,8 @@
 //! polynomial longitude.
 
 use second::arguments::{Arguments, ALL};
-use second::calendar::instant;
 use second::exact::{QUADRANT, TURN};
+use second::fieldbook::check;
 use second::frame::frame;
 use second::polynomial::Polynomial;
 use second::random::{accepted, Random};
@@ -29,13 +29,13 @@ fn longitude_within_60_of_the_polynomial() {
     let mut random = Random::new(60);
     for _ in 0..300 {
         let fields = accepted(&mut random);
-        let time = std::array::from_fn(|i| fields[i]);
-        let instant = instant(&time).expect("an accepted instant");
-        let arguments = Arguments::at(&instant, &ALL);
+        let instant = check(&fields).expect("an accepted instant");
+        let q = instant.ephemeris.millionths;
+        let arguments = Arguments::at(&instant.ephemeris, &ALL);
         let frame = frame(&sine, &instant, &arguments);
-        let s = sun(&sine, &arguments, instant.millionths, &frame).apparent_longitude;
-        let exact = polynomial_longitude(&polynomial, &arguments, instant.millionths);
+        let s = sun(&sine, &arguments, q, &frame).apparent_longitude;
+        let exact = polynomial_longitude(&polynomial, &arguments, q);
         let difference = (s - exact).abs();
-        assert!(difference.min(TURN - difference) <= 60, "{time:?}");
+        assert!(difference.min(TURN - difference) <= 60, "{fields:?}");
     }
 }

@@ -48,6 +48,18 @@ fn a_library_that_differs_is_found() {
         angles[3] += u64::from(*number == 8);
     });
     assert!(refused_with_an_angle.is_err());
+    let delta_t_before_dut1 = changed::<Shot>(|shot, (number, _)| {
+        if *number == 4 && !(0..=120_000).contains(&shot.fields[10]) {
+            *number = 17;
+        }
+    });
+    assert!(delta_t_before_dut1.is_err());
+    let delta_t_after_latitude = changed::<Shot>(|shot, (number, _)| {
+        if *number == 17 && shot.fields[7].abs() == 3_204_001 {
+            *number = 5;
+        }
+    });
+    assert!(delta_t_after_latitude.is_err());
     let turn_for_north = changed::<Pointing>(|_, (number, mark)| {
         mark[0] += if *number == 0 && mark[0] == 0 { 12_960_000_000 } else { 0 };
     });

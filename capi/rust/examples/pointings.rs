@@ -1,4 +1,4 @@
-//! Works two sets of pointings from standard input, the ten numbers of a shot and the horizontal
+//! Works two sets of pointings from standard input, the eleven numbers of a shot and the horizontal
 //! angle to a line, with an empty line between the sets. Prints the azimuth of the mark by each in
 //! degrees, minutes and seconds, or the refusal, and at the end which set has the smaller spread.
 
@@ -21,7 +21,7 @@ fn work_set(lines: &mut io::Lines<io::StdinLock>) -> Result<Vec<i64>, Box<dyn Er
             break;
         }
         let numbers: Result<Vec<i64>, _> = line.split_whitespace().map(str::parse).collect();
-        let numbers: [i64; 11] = numbers?.try_into().map_err(|_| "a line is eleven numbers")?;
+        let numbers: [i64; 12] = numbers?.try_into().map_err(|_| "a line is twelve numbers")?;
         let [fields @ .., angle] = numbers;
         match pointing(&Numbers::from(fields), angle) {
             Ok(mark) => {

@@ -1,5 +1,5 @@
-//! Works the shots of standard input, ten numbers to a line, and prints the angles or the refusal
-//! of each.
+//! Works the shots of standard input, eleven numbers to a line, and prints the angles or the
+//! refusal of each.
 
 use fieldbook::{shot, Numbers};
 use std::error::Error;
@@ -8,7 +8,7 @@ use std::io;
 fn main() -> Result<(), Box<dyn Error>> {
     for line in io::stdin().lines() {
         let numbers: Result<Vec<i64>, _> = line?.split_whitespace().map(str::parse).collect();
-        let fields: [i64; 10] = numbers?.try_into().map_err(|_| "a line is ten numbers")?;
+        let fields: [i64; 11] = numbers?.try_into().map_err(|_| "a line is eleven numbers")?;
         match shot(&Numbers::from(fields)) {
             Ok(a) => println!(
                 "az {} zd {} ha {} s {}",

@@ -41,6 +41,7 @@ extern "C" {
         latitude: i64,
         longitude: i64,
         body: i64,
+        delta_t: i64,
     ) -> ShotAnswer;
 
     fn fieldbook_pointing(
@@ -54,6 +55,7 @@ extern "C" {
         latitude: i64,
         longitude: i64,
         body: i64,
+        delta_t: i64,
         angle: i64,
     ) -> PointingAnswer;
 
@@ -66,32 +68,16 @@ extern "C" {
 }
 
 /// The shot as the static library answers it, with the fields in the card's order.
-pub fn shot(fields: [i64; 10]) -> ShotAnswer {
-    let [year, month, day, hour, minute, millisecond, dut1, latitude, longitude, body] = fields;
+pub fn shot(n: [i64; 11]) -> ShotAnswer {
     // SAFETY: the function is proved for all numbers and is lent no memory.
-    unsafe {
-        fieldbook_shot(year, month, day, hour, minute, millisecond, dut1, latitude, longitude, body)
-    }
+    unsafe { fieldbook_shot(n[0], n[1], n[2], n[3], n[4], n[5], n[6], n[7], n[8], n[9], n[10]) }
 }
 
 /// The pointing as the static library answers it.
-pub fn pointing(fields: [i64; 10], angle: i64) -> PointingAnswer {
-    let [year, month, day, hour, minute, millisecond, dut1, latitude, longitude, body] = fields;
+pub fn pointing(n: [i64; 11], angle: i64) -> PointingAnswer {
     // SAFETY: the function is proved for all numbers and is lent no memory.
     unsafe {
-        fieldbook_pointing(
-            year,
-            month,
-            day,
-            hour,
-            minute,
-            millisecond,
-            dut1,
-            latitude,
-            longitude,
-            body,
-            angle,
-        )
+        fieldbook_pointing(n[0], n[1], n[2], n[3], n[4], n[5], n[6], n[7], n[8], n[9], n[10], angle)
     }
 }
 

@@ -3,7 +3,7 @@
 
 mod ffi;
 
-/// The ten numbers of a shot; any numbers may be given.
+/// The eleven numbers of a shot; any numbers may be given.
 #[derive(Clone, Copy, Debug, PartialEq, Eq)]
 pub struct Numbers {
     pub year: i64,
@@ -21,6 +21,8 @@ pub struct Numbers {
     pub longitude: i64,
     /// 1 the Sun, 2 Polaris.
     pub body: i64,
+    /// ET - UT1, in milliseconds; 0 counts both times as one.
+    pub delta_t: i64,
 }
 
 /// An answered shot, in units of 0.0001 second of arc.
@@ -36,31 +38,45 @@ pub struct ShotAngles {
     pub longitude: u64,
 }
 
-/// Why there is no answer; its number is the discriminant.
+/// Why there is no answer, in the order of the tests; its number is the discriminant.
 #[derive(Clone, Copy, Debug, PartialEq, Eq)]
 pub enum Refusal {
     NoDate = 2,
     NoTime = 3,
     NoDut1 = 4,
+    NoDeltaT = 17,
     NoPosition = 5,
     NoBody = 6,
     BelowHorizon = 7,
     NearZenith = 8,
-    NoAngle = 15,
     NoList = 16,
+    NoAngle = 15,
 }
 
-impl From<[i64; 10]> for Numbers {
+impl From<[i64; 11]> for Numbers {
     /// The fields in the card's order.
-    fn from(fields: [i64; 10]) -> Self {
-        let [year, month, day, hour, minute, millisecond, dut1, latitude, longitude, body] = fields;
-        Numbers { year, month, day, hour, minute, millisecond, dut1, latitude, longitude, body }
+    fn from(fields: [i64; 11]) -> Self {
+        let [year, month, day, hour, minute, millisecond, dut1, latitude, longitude, body, delta_t] =
+            fields;
+        Numbers {
+            year,
+            month,
+            day,
+            hour,
+            minute,
+            millisecond,
+            dut1,
+            latitude,
+            longitude,
+            body,
+            delta_t,
+        }
     }
 }
 
 impl Numbers {
     /// The fields in the card's order.
-    fn fields(&self) -> [i64; 10] {
+    fn fields(&self) -> [i64; 11] {
         let Numbers {
             year,
             month,
@@ -72,8 +88,9 @@ impl Numbers {
             latitude,
             longitude,
             body,
+            delta_t,
         } = *self;
-        [year, month, day, hour, minute, millisecond, dut1, latitude, longitude, body]
+        [year, month, day, hour, minute, millisecond, dut1, latitude, longitude, body, delta_t]
     }
 }
 
@@ -84,12 +101,13 @@ fn accepted(number: u64) -> Result<(), Refusal> {
         2 => Refusal::NoDate,
         3 => Refusal::NoTime,
         4 => Refusal::NoDut1,
+        17 => Refusal::NoDeltaT,
         5 => Refusal::NoPosition,
         6 => Refusal::NoBody,
         7 => Refusal::BelowHorizon,
         8 => Refusal::NearZenith,
-        15 => Refusal::NoAngle,
         16 => Refusal::NoList,
+        15 => Refusal::NoAngle,
         _ => unreachable!("no call of this interface is refused by {number}"),
     })
 }

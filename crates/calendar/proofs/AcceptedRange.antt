@@ -1,5 +1,5 @@
 -- The epochs of every accepted instant lie in the span, from the definitions alone: a date of the years accepted has its D between those of the first
--- and the last day, a time of day its millisecond, and DUT1 its 900 ms.
+-- and the last day, a time of day its millisecond, DUT1 its 900 ms, and ΔT its 120,000.
 use mathlib.Core.Path.{_≡_, refl, sym, ap, subst}
 use mathlib.Core.Bool.{Bool, true, false, cond, _&&_}
 use Prim.Native.Nat.{ℕ, suc, _+_, _-_, _*_, _≤_}
@@ -14,10 +14,10 @@ use Rattle.exact.specs.Range.{between}
 use Rattle.exact.proofs.Choice.{was-true}
 use Rattle.exact.proofs.Differences.{split, zs}
 use Rattle.exact.proofs.Machine.{and-true, between-low, between-high, between-nat}
-use Rattle.epoch.specs.Epoch.{epochOf}
 use Rattle.epoch.specs.Sizes.{Span, InSpan}
 use Rattle.calendar.specs.Date.{leapYear, months, total, monthLength, monthDays, dayCount, isDate}
-use Rattle.calendar.specs.Time.{leapSecondDay, lastMillisecond, isTime, dayMillisecond, isDut1, since1900, instant, InstantValues, accepted, refused, instantOf}
+use Rattle.calendar.specs.Time.{leapSecondDay, lastMillisecond, isTime, dayMillisecond, isDut1, isDeltaT, since1900, instant, InstantValues, accepted, refused, instantOf}
+use Rattle.calendar.specs.Sizes.{UniversalSpan}
 use Rattle.calendar.specs.declared.CivilTime.{CivilTime}
 use Rattle.calendar.specs.declared.Epochs.{Epochs}
 use Rattle.calendar.proofs.Count.{upto-le, in-range}
@@ -73,7 +73,7 @@ dut1-le z e = go z (between-low _ _ _ e) (between-high _ _ _ e)
 abbrev pub Sizes : ℤ → ℤ → ℕ → ℤ → Type 0
 Sizes w x ms dut1 =
     SFits w64 w × SFits w64 (w -ℤ pos 43_200_000) × SFits w64 (w -ℤ pos 43_200_000 +ℤ dut1)
-    × (w -ℤ pos 43_200_000 +ℤ dut1 ≡ x -ℤ pos 43_200_000 +ℤ pos ms +ℤ dut1) × Span (w -ℤ pos 43_200_000 +ℤ dut1)
+    × (w -ℤ pos 43_200_000 +ℤ dut1 ≡ x -ℤ pos 43_200_000 +ℤ pos ms +ℤ dut1) × UniversalSpan (w -ℤ pos 43_200_000 +ℤ dut1)
 
 pub sizes : (day ms : ℕ) (dut1 : ℤ) → 27_759 ≤ day → day ≤ 54_787 → ms ≤ 86_400_999 → natAbs dut1 ≤ 900
     → Sizes (pos (86_400_000 * day + ms)) (pos (86_400_000 * day)) ms dut1
@@ -82,6 +82,15 @@ sizes day ms dut1 = go (pos (86_400_000 * day + ms)) (pos (86_400_000 * day)) re
     go : (w x : ℤ) → w ≡ pos (86_400_000 * day + ms) → x ≡ pos (86_400_000 * day)
         → 27_759 ≤ day → day ≤ 54_787 → ms ≤ 86_400_999 → natAbs dut1 ≤ 900 → Sizes w x ms dut1
     go w x = rw (split w, split x, split dut1) (simp zs (omega arith))
+
+-- ---- the epochs
+-- N itself lies in the span, and N with ΔT
+pub epochs-span : (n deltaT : ℤ) → UniversalSpan n → isDeltaT deltaT ≡ true → Span n × Span (n +ℤ deltaT)
+unfolding isDeltaT
+epochs-span n deltaT s e = let r = between-nat 0 120_000 deltaT e in go n deltaT s (r .0) (r .2)
+  where
+    go : (n d : ℤ) → UniversalSpan n → d ≡ pos (natAbs d) → natAbs d ≤ 120_000 → Span n × Span (n +ℤ d)
+    go n d = rw (split n, split d) (simp zs (omega arith))
 
 -- ---- an accepted instant
 pub accepted-in-span : (t : CivilTime) (es : Epochs) → instantOf t ≡ accepted es → InSpan (es .universal) × InSpan (es .ephemeris)
@@ -92,12 +101,14 @@ accepted-in-span t es e =
     let dut1 = was-true (isDut1 (t .dut1)) _ (refused 4) (accepted es) (no 3) (time .1) in
     let d = date-range (t .year) (t .month) (t .day) (date .0) in
     let m = time-range (t .month) (t .day) (t .hour) (t .minute) (t .millisecond) (time .0) in
-    let i : InSpan (epochOf (instant t)) = record { span = within t d m (dut1-le (t .dut1) (dut1 .0)); millionths = refl } in
-    subst (λ (es : Epochs). InSpan (es .universal) × InSpan (es .ephemeris)) (ap (λ (a : InstantValues). a .epochs) (sym (dut1 .1))) (i, i)
+    let late = was-true (isDeltaT (t .«delta_t»)) _ (refused 17) (accepted es) (no 16) (dut1 .1) in
+    let s = epochs-span (instant t) (t .«delta_t») (within t d m (dut1-le (t .dut1) (dut1 .0))) (late .0) in
+    subst (λ (es : Epochs). InSpan (es .universal) × InSpan (es .ephemeris)) (ap (λ (a : InstantValues). a .epochs) (sym (late .1)))
+    (record { span = s .0; millionths = refl }, record { span = s .1; millionths = refl })
   where
     no : (k : ℕ) → accepted es ≡ refused (suc k) → ⊥
     no k e = let z : 0 ≡ suc k = ap (λ (a : InstantValues). a .refusal) e in omega arith
 
     within : (t : CivilTime) → (27_759 ≤ dayCount (natAbs (t .year)) (natAbs (t .month)) (natAbs (t .day))) × (dayCount (natAbs (t .year)) (natAbs (t .month)) (natAbs (t .day)) ≤ 54_787)
-        → dayMillisecond (t .hour) (t .minute) (t .millisecond) ≤ 86_400_999 → natAbs (t .dut1) ≤ 900 → Span (instant t)
-    within t d m u = unfold instant since1900 in let s = sizes _ _ (t .dut1) (d .0) (d .1) m u in subst Span (s .3) (s .4)
+        → dayMillisecond (t .hour) (t .minute) (t .millisecond) ≤ 86_400_999 → natAbs (t .dut1) ≤ 900 → UniversalSpan (instant t)
+    within t d m u = unfold instant since1900 in let s = sizes _ _ (t .dut1) (d .0) (d .1) m u in subst UniversalSpan (s .3) (s .4)

@@ -1,4 +1,5 @@
-// The calendar: Gregorian dates, and the two epochs of an instant. Document 01, "The card" (fields 1 to 7) and "Time".
+// The calendar: Gregorian dates, and the two epochs of an instant. Document 01, "The card" (fields 1 to 7) and "Time"; document 02,
+// request 3 (field 11).
 use epoch::Epoch;
 use refusal::Refusal;
 ghost use mathlib.Core.Path.{_≡_};
@@ -6,17 +7,18 @@ ghost use mathlib.Core.Bool.{true};
 ghost use Prim.Native.Nat.{_≤_, _<_};
 ghost use lib.IntN.{natAbs};
 ghost use lib.ListN.{take};
-ghost use Rattle.epoch.specs.Sizes.{Span, InSpan};
+ghost use Rattle.epoch.specs.Sizes.{InSpan};
 ghost use Rattle.calendar.specs.Date.{leapYear, months, total, monthLength, isDate, yearDays, dayCount};
-ghost use Rattle.calendar.specs.Time.{leapSecondDay, lastMillisecond, isTime, dayMillisecond, since1900, epochsOf, instantOf, instantValues};
-ghost use Rattle.calendar.specs.Sizes.{InstantSized};
+ghost use Rattle.calendar.specs.Time.{leapSecondDay, lastMillisecond, isTime, dayMillisecond, isDeltaT, since1900, epochsOf, instantOf, instantValues};
+ghost use Rattle.calendar.specs.Sizes.{UniversalSpan, InstantSized};
 
-// The length of each month of a common year, and the days of that year before it.
-const LENGTHS: [u64; 12] = [31, 28, 31, 30, 31, 30, 31, 31, 30, 31, 30, 31];
+// The length of each month of a common year, and the days of that year before it, in the least number of bytes: each call writes them
+// to the stack.
+const LENGTHS: [u8; 12] = [31, 28, 31, 30, 31, 30, 31, 31, 30, 31, 30, 31];
 
-const DAYS_BEFORE: [u64; 12] = [0, 31, 59, 90, 120, 151, 181, 212, 243, 273, 304, 334];
+const DAYS_BEFORE: [u16; 12] = [0, 31, 59, 90, 120, 151, 181, 212, 243, 273, 304, 334];
 
-// Fields 1 to 7 of the card: the date, the time of day in UTC, and DUT1 in milliseconds.
+// Fields 1 to 7 and 11 of the card: the date, the time of day in UTC, and DUT1 and ΔT in milliseconds. DUT1 is UT1 − UTC, ΔT is ET − UT1.
 pub struct CivilTime {
     pub year: i64,
     pub month: i64,
@@ -25,15 +27,16 @@ pub struct CivilTime {
     pub minute: i64,
     pub millisecond: i64,
     pub dut1: i64,
+    pub delta_t: i64,
 }
 
-// The two epochs of an accepted instant: sidereal time goes by universal time, all else by ephemeris time.
+// The two epochs of an accepted instant: sidereal time goes by universal time, all else by ephemeris time, which is ΔT ahead.
 pub struct Epochs {
     pub universal: Epoch,
     pub ephemeris: Epoch,
 }
 
-// What seven numbers are answered with: their epochs, or why they name no instant, 2, 3 or 4.
+// What eight numbers are answered with: their epochs, or why they name no instant, 2, 3, 4 or 17.
 pub enum Instant {
     Accepted(Epochs),
     Refused(Refusal),
@@ -51,7 +54,7 @@ fn month_length(year: u64, month: u64) -> u64
     ensures { λ r. ⌜ (r ≡ monthLength year month) × (r ≤ 31) ⌝ }
 {
     if month != 2 {
-        return LENGTHS[month as usize - 1];
+        return LENGTHS[month as usize - 1] as u64;
     }
     if leap_year(year) { 29 } else { 28 }
 }
@@ -74,7 +77,7 @@ fn days_before(count: usize, leap: bool) -> u64
     requires { ⌜ count ≤ 11 ⌝ }
     ensures { λ r. ⌜ (r ≡ total (take count (months leap))) × (r ≤ 335) ⌝ }
 {
-    let days = DAYS_BEFORE[count];
+    let days = DAYS_BEFORE[count] as u64;
     if count < 2 {
         return days;
     }
@@ -130,14 +133,18 @@ fn last_millisecond(month: u64, day: u64, hour: u64, minute: u64) -> u64
 fn is_time(month: i64, day: i64, hour: i64, minute: i64, millisecond: i64) -> bool
     ensures { λ r. ⌜ r ≡ isTime month day hour minute millisecond ⌝ }
 {
-    let last = last_millisecond(
-        exact::magnitude(month),
-        exact::magnitude(day),
-        exact::magnitude(hour),
-        exact::magnitude(minute),
-    );
     exact::between(0, hour, 23)
-        && (exact::between(0, minute, 59) && exact::between(0, millisecond, last as i64))
+        && (exact::between(0, minute, 59)
+            && exact::between(
+                0,
+                millisecond,
+                last_millisecond(
+                    exact::magnitude(month),
+                    exact::magnitude(day),
+                    exact::magnitude(hour),
+                    exact::magnitude(minute),
+                ) as i64,
+            ))
 }
 
 // The millisecond of the day.
@@ -152,24 +159,23 @@ fn day_millisecond(hour: i64, minute: i64, millisecond: i64) -> u64
 // N: the milliseconds since 1900 January 0.5.
 fn since_1900(day: u64, ms: u64, dut1: i64) -> i64
     requires { ⌜ ((27_759 ≤ day) × (day ≤ 54_787)) × (ms ≤ 86_400_999) × (natAbs dut1 ≤ 900) ⌝ }
-    ensures { λ r. ⌜ (r ≡ since1900 day ms dut1) × Span r ⌝ }
+    ensures { λ r. ⌜ (r ≡ since1900 day ms dut1) × UniversalSpan r ⌝ }
 {
     (86_400_000 * day + ms) as i64 - 43_200_000 + dut1
 }
 
-// The epochs of an accepted instant. Both are those of N: no rule tells the two times apart.
-fn epochs_of(n: i64) -> Epochs
-    requires { ⌜ Span n ⌝ }
-    ensures { λ r. ⌜ (r ≡ epochsOf n) × (InSpan (r .universal) × InSpan (r .ephemeris)) ⌝ }
+// The epochs of an accepted instant: of N, and of N with ΔT.
+fn epochs_of(n: i64, delta_t: i64) -> Epochs
+    requires { ⌜ UniversalSpan n × (isDeltaT «delta_t» ≡ true) ⌝ }
+    ensures { λ r. ⌜ (r ≡ epochsOf n «delta_t») × (InSpan (r .universal) × InSpan (r .ephemeris)) ⌝ }
 {
-    let e = epoch::epoch_of(n);
     Epochs {
-        universal: e,
-        ephemeris: e,
+        universal: epoch::epoch_of(n),
+        ephemeris: epoch::epoch_of(n + delta_t),
     }
 }
 
-// The instant of any seven numbers: its epochs, or the lowest refusal that applies.
+// The instant of any eight numbers: its epochs, or the first refusal that applies.
 pub fn instant_of(t: CivilTime) -> Instant
     ensures { λ r. ⌜ (instantValues r ≡ instantOf t) × InstantSized r ⌝ }
 {
@@ -182,7 +188,10 @@ pub fn instant_of(t: CivilTime) -> Instant
     if !exact::between(-900, t.dut1, 900) {
         return Instant::Refused(Refusal::NoDut1);
     }
+    if !exact::between(0, t.delta_t, 120_000) {
+        return Instant::Refused(Refusal::NoDeltaT);
+    }
     let day = day_count(t.year, t.month, t.day);
     let ms = day_millisecond(t.hour, t.minute, t.millisecond);
-    Instant::Accepted(epochs_of(since_1900(day, ms, t.dut1)))
+    Instant::Accepted(epochs_of(since_1900(day, ms, t.dut1), t.delta_t))
 }

@@ -1,4 +1,4 @@
--- What the contracts of the C interface cite: the ten numbers as the book takes them, and the words of each answer as the values that the rules give
+-- What the contracts of the C interface cite: the eleven numbers as the book takes them, and the words of each answer as the values that the rules give
 -- it (RULES.md, "Refusals", "The horizon" and "The mark").
 use mathlib.Core.List.{[], _∷_}
 use lib.IntN.{ℤ}
@@ -10,10 +10,10 @@ use Rattle.capi.specs.declared.shots.ShotAnswer.{ShotAnswer}
 use Rattle.capi.specs.declared.pointings.PointingAnswer.{PointingAnswer}
 use Rattle.capi.specs.declared.choices.ChoiceAnswer.{ChoiceAnswer}
 
--- fields 1 to 10 of the card, in the units of document 01's table (RULES.md, "Fields")
-abbrev pub numbers : ℤ → ℤ → ℤ → ℤ → ℤ → ℤ → ℤ → ℤ → ℤ → ℤ → Numbers
-numbers year month day hour minute millisecond dut1 latitude longitude body =
-    numbersOf (year ∷ month ∷ day ∷ hour ∷ minute ∷ millisecond ∷ dut1 ∷ latitude ∷ longitude ∷ body ∷ [])
+-- fields 1 to 11 of the card, in the units of RULES.md, "Fields"
+abbrev pub numbers : ℤ → ℤ → ℤ → ℤ → ℤ → ℤ → ℤ → ℤ → ℤ → ℤ → ℤ → Numbers
+numbers year month day hour minute millisecond dut1 latitude longitude body deltaT =
+    numbersOf (year ∷ month ∷ day ∷ hour ∷ minute ∷ millisecond ∷ dut1 ∷ latitude ∷ longitude ∷ body ∷ deltaT ∷ [])
 
 -- what the words of an answer say: of a shot, of a pointing, of a choice
 abbrev pub shotAnswerValues : ShotAnswer → ShotValues

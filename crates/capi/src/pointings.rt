@@ -12,7 +12,7 @@ pub struct PointingAnswer {
     pub mark: u64,
 }
 
-// The pointing with the ten plain numbers of a shot and the horizontal angle, any number, clockwise from the mark to the body.
+// The pointing with the eleven plain numbers of a shot and the horizontal angle, any number, clockwise from the mark to the body.
 #[no_mangle]
 pub extern "C" fn fieldbook_pointing(
     year: i64,
@@ -25,9 +25,10 @@ pub extern "C" fn fieldbook_pointing(
     latitude: i64,
     longitude: i64,
     body: i64,
+    delta_t: i64,
     angle: i64,
 ) -> PointingAnswer
-    ensures { λ r. ⌜ (pointingAnswerValues r ≡ pointing (numbers year month day hour minute millisecond dut1 latitude longitude body) angle) × MarkReduced (pointingAnswerValues r) ⌝ }
+    ensures { λ r. ⌜ (pointingAnswerValues r ≡ pointing (numbers year month day hour minute millisecond dut1 latitude longitude body «delta_t») angle) × MarkReduced (pointingAnswerValues r) ⌝ }
 {
     let fields = [
         year,
@@ -40,6 +41,7 @@ pub extern "C" fn fieldbook_pointing(
         latitude,
         longitude,
         body,
+        delta_t,
     ];
     match pointing::pointing(fieldbook::numbers_of(&fields), angle) {
         Mark::Azimuth(mark) => PointingAnswer {

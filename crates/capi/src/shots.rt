@@ -15,7 +15,7 @@ pub struct ShotAnswer {
     pub longitude: u64,
 }
 
-// The shot with ten plain numbers.
+// The shot with eleven plain numbers.
 #[no_mangle]
 pub extern "C" fn fieldbook_shot(
     year: i64,
@@ -28,8 +28,9 @@ pub extern "C" fn fieldbook_shot(
     latitude: i64,
     longitude: i64,
     body: i64,
+    delta_t: i64,
 ) -> ShotAnswer
-    ensures { λ r. ⌜ (shotAnswerValues r ≡ shot (numbers year month day hour minute millisecond dut1 latitude longitude body)) × ShotReduced (shotAnswerValues r) ⌝ }
+    ensures { λ r. ⌜ (shotAnswerValues r ≡ shot (numbers year month day hour minute millisecond dut1 latitude longitude body «delta_t»)) × ShotReduced (shotAnswerValues r) ⌝ }
 {
     let fields = [
         year,
@@ -42,6 +43,7 @@ pub extern "C" fn fieldbook_shot(
         latitude,
         longitude,
         body,
+        delta_t,
     ];
     match fieldbook::shot(fieldbook::numbers_of(&fields)) {
         Outcome::Answered(a) => ShotAnswer {

@@ -1,4 +1,4 @@
--- Document 01, "The card" (RULES.md, "Fields" and "The card"): the card, its fields and their states.
+-- Document 01, "The card"; document 02, request 3 (field 11) (RULES.md, "Fields" and "The card"): the card, its fields and their states.
 use mathlib.Core.Path.{_≡_}
 use mathlib.Core.Bool.{Bool, true, false, cond}
 use Prim.Native.Nat.{ℕ, _-_}
@@ -40,7 +40,7 @@ numberIn (Confirmed z) = z
 -- ---- the card
 -- it has a slot for each field, and the fields' numbers are 1 to fieldCount
 abbrev pub fieldCount : ℕ
-fieldCount = 10
+fieldCount = 11
 
 abbrev pub isField : ℤ → Bool
 isField f = between (pos 1) f (pos fieldCount)

@@ -1,5 +1,5 @@
-// The card of spoken fields. Document 01, "The card". A number counts only after it was heard, read out and confirmed.
-// The calls take a card by value and answer the card afterwards; a refused call answers the card as it was.
+// The card of spoken fields. Document 01, "The card"; document 02, request 3 (field 11). A number counts only after it was heard, read out
+// and confirmed. The calls take a card by value and answer the card afterwards; a refused call answers the card as it was.
 use digits::Written;
 use refusal::Refusal;
 use refusal::Verdict;
@@ -13,7 +13,7 @@ ghost use Rattle.card.specs.Calls.{cardValues, readingValues, readValues
 ghost use Rattle.card.specs.Confirmed.{confirmedValues, confirmedNumbers};
 
 // How many fields a card has.
-pub const FIELDS: usize = 10;
+pub const FIELDS: usize = 11;
 
 // The index of DUT1 among them: one less than its number.
 const DUT1: usize = 6;

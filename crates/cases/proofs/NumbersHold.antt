@@ -11,7 +11,7 @@ use Rattle.sine.specs.VectorAngle.{passes, quadrantAngle, angle}
 use Rattle.sine.proofs.Passing.{quadrant-angle-is}
 use Rattle.epoch.specs.Epoch.{millionths}
 use Rattle.calendar.specs.Date.{leapYear, monthLength, yearDays, monthDays, dayCount, isDate}
-use Rattle.calendar.specs.Time.{leapSecondDay, lastMillisecond, isTime, dayMillisecond, isDut1, since1900, instant, instantOf}
+use Rattle.calendar.specs.Time.{leapSecondDay, lastMillisecond, isTime, dayMillisecond, isDut1, isDeltaT, since1900, instant, instantOf}
 use Rattle.cases.specs.WorkedNumbers.{given, stated}
 
 -- the two angles of the first quadrant: each passes, and the next fails
@@ -24,5 +24,5 @@ unfolding passes Sin Cos sinQuadrant entryAt nearestDivℕ polyNum polyDen term 
 diagonal = quadrant-angle-is 1 1 1_620_000_001 (lit< tt) refl (λ h. refl)
 
 pub numbers-hold : given ≡ stated
-unfolding leapYear monthLength yearDays monthDays dayCount isDate leapSecondDay lastMillisecond isTime dayMillisecond isDut1 since1900 instant millionths instantOf between floorDiv Sin sinQuadrant entryAt nearestDivℕ polyNum polyDen term cofactor arc whole angle
+unfolding leapYear monthLength yearDays monthDays dayCount isDate leapSecondDay lastMillisecond isTime dayMillisecond isDut1 isDeltaT since1900 instant millionths instantOf between floorDiv Sin sinQuadrant entryAt nearestDivℕ polyNum polyDen term cofactor arc whole angle
 numbers-hold = rw (east, diagonal)

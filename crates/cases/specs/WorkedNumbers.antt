@@ -9,10 +9,10 @@ use Rattle.calendar.specs.Date.{dayCount}
 use Rattle.calendar.specs.Time.{instantOf}
 use Rattle.calendar.specs.declared.CivilTime.{CivilTime}
 
--- 0h of a date, with DUT1 0
+-- 0h of a date, with DUT1 and ΔT 0
 abbrev pub midnight : ℕ → ℕ → ℕ → CivilTime
 midnight year month day =
-    record { year = pos year; month = pos month; day = pos day; hour = pos 0; minute = pos 0; millisecond = pos 0; dut1 = pos 0 }
+    record { year = pos year; month = pos month; day = pos day; hour = pos 0; minute = pos 0; millisecond = pos 0; dut1 = pos 0; «delta_t» = pos 0 }
 
 abbrev pub given : List ℤ
 given =

@@ -9,13 +9,13 @@ pub struct Epoch {
     pub q: i64,
 }
 
-// The epoch of N.
+// The epoch of N. A century has a million millionths, so one division by a millionth gives q.
 pub fn epoch_of(n: i64) -> Epoch
     requires { ⌜ Span n ⌝ }
     ensures { λ r. ⌜ (r ≡ epochOf n) × InSpan r ⌝ }
 {
     Epoch {
         n: n,
-        q: exact::per_century(1_000_000, n),
+        q: (n as u64 / exact::MILLIONTH) as i64,
     }
 }

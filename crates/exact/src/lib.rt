@@ -1,9 +1,9 @@
 // Exact arithmetic on whole numbers: floor and nearest division, products wider than 64 bits, reduction to a turn, the integer
 // square root. Document 01, "Units and rounding".
 ghost use mathlib.Core.Path.{_≡_};
-ghost use Prim.Native.Nat.{_+_, _*_, _<_, _≤_, _^_};
+ghost use Prim.Native.Nat.{_+_, _*_, _/_, _<_, _≤_, _^_};
 ghost use lib.IntN.{pos, natAbs, _*ℤ_};
-ghost use lib.Signed.{_<ℤ_};
+ghost use lib.Signed.{_<ℤ_, _≤ℤ_};
 ghost use Rattle.exact.specs.Division.{floorDiv, nearestDiv};
 ghost use Rattle.exact.specs.Reduction.{turn, isReduced, reduced};
 ghost use Rattle.exact.specs.Century.{century};
@@ -20,7 +20,7 @@ const TURNS: i64 = 200_000_000 * TURN;
 pub const CENTURY: i64 = 3_155_760_000_000;
 
 // A millionth of a century, in milliseconds.
-const MILLIONTH: u64 = 3_155_760;
+pub const MILLIONTH: u64 = 3_155_760;
 
 // Whether x lies between two numbers, both included.
 pub fn between(low: i64, x: i64, high: i64) -> bool
@@ -81,24 +81,22 @@ pub fn reduced_bounded(a: i64) -> u64
     (a + TURNS) as u64 % TURN as u64
 }
 
-// b * n / CENTURY, rounded down, for a natural b. With three centuries more n is a natural m, and the quotient is 3 * b more. As CENTURY
-// is 1,000,000 * MILLIONTH, m = q * MILLIONTH + r has the quotient (b * q + b * r / MILLIONTH) / 1,000,000, whose products fit.
-fn rest_per_century(b: u64, n: i64) -> i64
-    requires { ⌜ (b < century) × (natAbs n < 2 ^ 43) ⌝ }
-    ensures { λ r. ⌜ r ≡ floorDiv (pos b *ℤ n) century ⌝ }
+// b * n / CENTURY, rounded down, of natural numbers. As CENTURY is 1,000,000 * MILLIONTH, n = q * MILLIONTH + r has the quotient
+// (b * q + b * r / MILLIONTH) / 1,000,000, whose products fit.
+fn rest_per_century(b: u64, n: u64) -> u64
+    requires { ⌜ (b < century) × (n < 2 ^ 43) ⌝ }
+    ensures { λ r. ⌜ (r ≡ b * n / century) × (r ≤ n) ⌝ }
 {
-    let m = (n + 3 * CENTURY) as u64;
-    let s = b * (m / MILLIONTH) + b * (m % MILLIONTH) / MILLIONTH;
-    (s / 1_000_000) as i64 - 3 * b as i64
+    (b * (n / MILLIONTH) + b * (n % MILLIONTH) / MILLIONTH) / 1_000_000
 }
 
-// c * n / CENTURY, rounded down, where the product may have 88 bits: with c = CENTURY * a + b it is b * n / CENTURY + a * n.
+// c * n / CENTURY, rounded down, for a natural n, where the product may have 88 bits: with c = CENTURY * a + b it is b * n / CENTURY + a * n.
 pub fn per_century(c: i64, n: i64) -> i64
-    requires { ⌜ (natAbs c < 2 ^ 45) × (natAbs n < 2 ^ 43) ⌝ }
+    requires { ⌜ (natAbs c < 2 ^ 45) × (pos 0 ≤ℤ n) × (natAbs n < 2 ^ 43) ⌝ }
     ensures { λ r. ⌜ r ≡ floorDiv (c *ℤ n) century ⌝ }
 {
     let a = floor_div(c, CENTURY);
-    rest_per_century((c - CENTURY * a) as u64, n) + a * n
+    rest_per_century((c - CENTURY * a) as u64, n as u64) as i64 + a * n
 }
 
 // The integer square root, the largest h with h * h <= x, by Newton's steps down from above: a step from any number lands at the

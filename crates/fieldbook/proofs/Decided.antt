@@ -10,7 +10,7 @@ use Rattle.refusal.specs.Tests.{Test}
 use Rattle.refusal.specs.declared.Refusal.{Refusal}
 use Rattle.refusal.proofs.Decisions.{Numbered, Refusable, handed-on, passed-on, is-answer, first-refuse, first-pass}
 use Rattle.calendar.specs.Time as Time
-use Rattle.calendar.specs.Time.{InstantValues, instant, epochsOf, accepted, instantTests, instantOf}
+use Rattle.calendar.specs.Time.{InstantValues, instantEpochs, accepted, instantTests, instantOf}
 use Rattle.calendar.specs.declared.Epochs.{Epochs}
 use Rattle.site.specs.Site as Site
 use Rattle.site.specs.Site.{LocatedValues, position, siteTests, positionOf}
@@ -81,7 +81,7 @@ instants = record { number = λ v. v .refusal; refused = Time.refused; gives = �
 
 module _ (x : Numbers) where
   abbrev found : Epochs
-  found = epochsOf (instant (x .time))
+  found = instantEpochs (x .time)
 
   abbrev after : List Test
   after = testsAt found (x .site) (x .body)
@@ -93,7 +93,7 @@ module _ (x : Numbers) where
   pub accepted-instant : (es : Epochs) → accepted es ≡ instantOf (x .time) → shotAt es (x .site) (x .body) ≡ shot x
   unfolding instantOf shot shotAt
   accepted-instant es e =
-      let all : Numbered (instantTests (x .time)) = (omega arith, (omega arith, (omega arith, tt))) in
+      let all : Numbered (instantTests (x .time)) = (omega arith, (omega arith, (omega arith, (omega arith, tt)))) in
       let h = first-pass instants (accepted found) refl (instantTests (x .time)) after (answerOf x) refused all (accepted es) refl e in
       ap (λ (a : InstantValues). shotAt (a .epochs) (x .site) (x .body)) (h .0) ∙ h .1
 

@@ -1,5 +1,5 @@
--- Document 01, "Refusal numbers" and "The horizon" (RULES.md, "Refusals" and "The horizon"): what the shot with ten plain numbers and the shot from a
--- card answer. Angles are in units of 0.0001″.
+-- Document 01, "Refusal numbers" and "The horizon", and document 02, request 3 (RULES.md, "Refusals" and "The horizon"): what the shot with eleven plain
+-- numbers and the shot from a card answer. Angles are in units of 0.0001″.
 use mathlib.Core.Bool.{Bool, cond, decide}
 use mathlib.Core.List.{List, _∷_, _++_}
 use Prim.Native.Nat.{ℕ, _<_}
@@ -10,7 +10,7 @@ use Rattle.exact.specs.Reduction.{turn}
 use Rattle.exact.specs.Range.{between}
 use Rattle.exact.specs.Nth.{nth}
 use Rattle.epoch.specs.declared.Epoch.{Epoch}
-use Rattle.calendar.specs.Time.{instant, epochsOf, instantTests}
+use Rattle.calendar.specs.Time.{instantEpochs, instantTests}
 use Rattle.calendar.specs.declared.Epochs.{Epochs}
 use Rattle.arguments.specs.PrintedArguments.{argumentsOf}
 use Rattle.frame.specs.Nutation.{dpsi, epsilon0, epsilon}
@@ -29,7 +29,7 @@ use Rattle.fieldbook.specs.declared.Outcome.{Outcome}
 use Rattle.fieldbook.specs.declared.Outcome.the-variants.{Answered, Refused}
 
 -- ---- what a shot is asked with
--- the numbers of the fields, in the order and the units of document 01's table (RULES.md, "Fields"): 1 to 7 the time, 8 and 9 the site, 10 the body
+-- the numbers of the fields, in the order and the units of RULES.md, "Fields": 1 to 7 and 11 the time, 8 and 9 the site, 10 the body
 unfoldable pub numbersOf : List ℤ → Numbers
 numbersOf fields = record {
   time = record {
@@ -40,6 +40,7 @@ numbersOf fields = record {
     minute = nth fields 4;
     millisecond = nth fields 5;
     dut1 = nth fields 6;
+    «delta_t» = nth fields 10;
   };
   site = record { latitude = nth fields 7; longitude = nth fields 8 };
   body = nth fields 9;
@@ -126,13 +127,13 @@ abbrev pub answerFrom : Epochs → Position → ℤ → ShotValues
 answerFrom es p body = answered (bodyView es p body) (longitudeOf (es .ephemeris) body)
 
 -- ---- the shot with plain numbers
--- its tests in the stated order: of the instant, 2 to 4, and then those above, 5 to 8
+-- its tests in the stated order: of the instant, 2 to 4 and 17, and then those above, 5 to 8
 abbrev pub tests : Numbers → List Test
-tests x = instantTests (x .time) ++ testsAt (epochsOf (instant (x .time))) (x .site) (x .body)
+tests x = instantTests (x .time) ++ testsAt (instantEpochs (x .time)) (x .site) (x .body)
 
 -- what it gives where they all pass
 abbrev pub answerOf : Numbers → ShotValues
-answerOf x = answerFrom (epochsOf (instant (x .time))) (position (x .site)) (x .body)
+answerOf x = answerFrom (instantEpochs (x .time)) (position (x .site)) (x .body)
 
 unfoldable pub shot : Numbers → ShotValues
 shot x = decided (tests x) (answerOf x) refused

@@ -1,4 +1,5 @@
-// The shot: where the Sun or Polaris stands for ten numbers, or for a card. Document 01, "Refusal numbers", "The horizon".
+// The shot: where the Sun or Polaris stands for eleven numbers, or for a card. Document 01, "Refusal numbers", "The horizon"; document 02,
+// request 3 (field 11).
 use calendar::CivilTime;
 use calendar::Epochs;
 use calendar::Instant;
@@ -25,7 +26,7 @@ ghost use Rattle.fieldbook.specs.Shot.{numbersOf, shotValues, ShotReduce
 ghost use Rattle.fieldbook.specs.Parts.{sightedShot, sunShot, polarisShot, shotFrom, shotAt};
 ghost use Rattle.fieldbook.specs.Astrometry.{IsAstrometry};
 
-// What a shot is asked with: fields 1 to 7 of document 01's card, 8 and 9, and 10.
+// What a shot is asked with: fields 1 to 7 and 11 of the card, 8 and 9, and 10.
 pub struct Numbers {
     pub time: CivilTime,
     pub site: Site,
@@ -75,6 +76,7 @@ pub fn numbers_of(fields: &[i64]) -> Numbers
             minute: fields[4],
             millisecond: fields[5],
             dut1: fields[6],
+            delta_t: fields[10],
         },
         site: Site {
             latitude: fields[7],

@@ -46,9 +46,9 @@ unfoldable pub words : List ℕ → List (List ℕ)
 words [] = [] ∷ []
 words (c ∷ l) = cond (eqb c 32) ([] ∷ words l) (prefixed c (words l))
 
--- the most numbers that a line of any program has: a pointing's ten fields and its horizontal angle
+-- the most numbers that a line of any program has: a pointing's eleven fields and its horizontal angle
 abbrev pub rowLength : ℕ
-rowLength = 11
+rowLength = 12
 
 abbrev pub ifNumber : Numeral → (ℤ → List ℤ) → List ℤ
 ifNumber NoNumber then = []

@@ -1,4 +1,4 @@
--- A line longer than 219 bytes is malformed in every program, whatever it holds; so the first 220 bytes of a line are answered as the whole line is.
+-- A line longer than 239 bytes is malformed in every program, whatever it holds; so the first 240 bytes of a line are answered as the whole line is.
 use mathlib.Core.Path.{_≡_, refl, sym, ap, _∙_}
 use mathlib.Core.Bool.{Bool, true, false, cond}
 use mathlib.Core.Logic.{_⊎_, inl, inr, ⊎-elim}
@@ -119,7 +119,7 @@ long-batch q l h =
     let f = asked-few q in
     rw (ne-eqb (length (numbersOf 18 l)) (numbersAsked q) (not-so-many 18 (numbersAsked q) l (asked-some q) (omega arith)))
 
--- what is the same for all long lines, the first 220 bytes tell
+-- what is the same for all long lines, the first 240 bytes tell
 told-by-first : {A : Type 0} (f : List ℕ → A) (a : A) → ((l : List ℕ) → longestLine < length l → f l ≡ a)
     → (l : List ℕ) → f (take (suc longestLine) l) ≡ f l
 told-by-first f a long l = by-order (length l) (suc longestLine) (λ h. ap f (take-all (suc longestLine) l h)) λ h.

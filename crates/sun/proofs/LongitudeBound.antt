@@ -1,7 +1,7 @@
 -- Demand 3, second half: the short way round, s and the polynomial longitude of an accepted instant are at most 60 units apart, whatever the
 -- aberration. The figure follows by computation from the lists of terms and the sine's tolerance: the law gives 50 units for the first sum and 1 for
 -- Δψ, 51 in all. Another list of terms, or another table, changes the figure here and no proof. No bound below 20 holds: `twenty-apart`
--- (FarthestKnown.antt) is the instant that comes as near to the bound as any known, 1976-03-31 03:54:05.235 with DUT1 0.
+-- (FarthestKnown.antt) is the instant that comes as near to the bound as any known, 1976-03-31 03:54:05.235 with DUT1 and ΔT 0.
 use mathlib.Core.Path.{_≡_}
 use mathlib.Core.List.{List}
 use Prim.Native.Nat.{ℕ, _+_, _-_, _*_, _/_, _≤_}
@@ -61,7 +61,7 @@ pub longitude-within-tolerance : (aberration : ℤ) (arguments : List ℤ) (q : 
 unfolding apparentLongitude polynomialLongitude
 longitude-within-tolerance aberration arguments q h = le-trans (within-figures firstSum aberration arguments q h) figures
 
--- the theorem, for every accepted instant, at its epoch of ephemeris time, and any aberration
+-- the theorem, for every accepted instant, at its epoch of ephemeris time, N with ΔT, and any aberration
 pub accepted-longitude-within-tolerance : (aberration : ℤ) (t : CivilTime) (es : Epochs) → instantOf t ≡ accepted es
     → let e = es .ephemeris in shortWay (apparentLongitude aberration (argumentsOf e) (e .q)) (polynomialLongitude aberration (argumentsOf e) (e .q)) ≤ longitudeTolerance
 accepted-longitude-within-tolerance aberration t es h =

@@ -6,7 +6,7 @@ use Rattle.epoch.specs.Sizes.{InSpan}
 use Rattle.vectors.specs.declared.instant.Quantities.{Quantities}
 
 pub record QuantitiesSized (k : Quantities) : Type 0 where
-  pub span : InSpan (k .epoch)
+  pub span : InSpan (k .epochs .ephemeris)
   pub epsilon0 : natAbs (k .frame .epsilon0) < 2 ^ 40
   pub dpsi : natAbs (k .frame .dpsi) < 2 ^ 40
   pub epsilon : natAbs (k .frame .epsilon) < 2 ^ 40

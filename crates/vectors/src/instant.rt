@@ -1,5 +1,5 @@
-// What is asked of an instant, fields 1 to 7 of the card: its time, the Sun's numbers, or with fields 8 to 10 every step of a shot. Angles are in
-// units of 0.0001″.
+// What is asked of an instant, fields 1 to 7 and 11 of the card: its time, the Sun's numbers, or with fields 8 to 10 every step of a shot. Angles
+// are in units of 0.0001″.
 use crate::angles;
 use crate::output;
 use crate::words::Word;
@@ -30,10 +30,10 @@ ghost use Rattle.site.specs.Sizes.{PositionSized};
 ghost use Rattle.card.specs.Fields.{fieldCount};
 ghost use Rattle.vectors.specs.Sizes.{QuantitiesSized};
 
-// An accepted instant: its epoch, the frame of the date, Greenwich sidereal time, the angle g of the centre terms alone, and the Sun's apparent
+// An accepted instant: its epochs, the frame of the date, Greenwich sidereal time, the angle g of the centre terms alone, and the Sun's apparent
 // longitude s.
 pub struct Quantities {
-    pub epoch: Epoch,
+    pub epochs: Epochs,
     pub frame: Frame,
     pub sidereal: u64,
     pub centre: u64,
@@ -56,6 +56,11 @@ pub fn shot(t: &SineTable, fields: &[i64])
     output::shot(fieldbook::shot_with(t, fieldbook::numbers_of(fields)));
 }
 
+// The fields of an instant alone, whose line has the numbers of fields 1 to 7 and 11: no site, and no body.
+pub fn fields_of(n: [i64; lines::ROW]) -> [i64; card::FIELDS] {
+    [n[0], n[1], n[2], n[3], n[4], n[5], n[6], 0, 0, 0, n[7]]
+}
+
 // Answers what is asked with the numbers of the fields.
 pub fn at(t: &SineTable, asked: Word, fields: &[i64])
     requires { ⌜ (now t ≡ entries) × (fieldCount ≤ length (now fields)) ⌝ }
@@ -75,7 +80,7 @@ fn quantities_of(t: &SineTable, epochs: Epochs) -> Quantities
     let arguments = arguments::arguments_of(e);
     let f = frame::frame_of(t, &arguments, e);
     Quantities {
-        epoch: e,
+        epochs: epochs,
         frame: f,
         sidereal: frame::sidereal_time(t, epochs.universal, f.dpsi, f.epsilon),
         centre: sun::centre_longitude(t, &arguments, e),
@@ -96,7 +101,7 @@ fn answer_at(t: &SineTable, asked: Word, quantities: Quantities, numbers: Number
     match asked {
         Word::Instant => {
             output::accepted();
-            write_time(quantities.epoch);
+            write_time(quantities.epochs);
         }
         Word::Longitude => {
             output::accepted();
@@ -110,11 +115,13 @@ fn answer_at(t: &SineTable, asked: Word, quantities: Quantities, numbers: Number
     }
 }
 
-// N, q and the arguments.
-fn write_time(e: Epoch)
-    requires { ⌜ InSpan e ⌝ }
+// N and its q, then N with ΔT, its q and the arguments.
+fn write_time(epochs: Epochs)
+    requires { ⌜ InSpan (epochs .ephemeris) ⌝ }
 {
-    output::integers(&[e.n, e.q]);
+    let u = epochs.universal;
+    let e = epochs.ephemeris;
+    output::integers(&[u.n, u.q, e.n, e.q]);
     output::integers(&arguments::arguments_of(e));
 }
 
@@ -177,7 +184,7 @@ fn parts_from(t: &SineTable, quantities: Quantities, position: Position, is_sun:
     let d = direction_of(t, quantities, is_sun);
     let sighting = horizon::sight(t, d, quantities.sidereal, position);
     output::sight_begin(sighting);
-    write_time(quantities.epoch);
+    write_time(quantities.epochs);
     write_frame(quantities);
     if is_sun {
         output::natural(quantities.longitude);
@@ -206,7 +213,7 @@ fn direction_of(t: &SineTable, quantities: Quantities, is_sun: bool) -> Directio
     } else {
         polaris::direction(
             t,
-            quantities.epoch,
+            quantities.epochs.ephemeris,
             f.epsilon0,
             f.dpsi,
             f.epsilon,
@@ -219,7 +226,7 @@ fn direction_of(t: &SineTable, quantities: Quantities, is_sun: bool) -> Directio
 fn write_polaris(t: &SineTable, quantities: Quantities)
     requires { ⌜ (now t ≡ entries) × QuantitiesSized quantities ⌝ }
 {
-    let p = polaris::tropical_millionths(quantities.epoch);
+    let p = polaris::tropical_millionths(quantities.epochs.ephemeris);
     let k = polaris::elements_of(p);
     output::integers(&[p, k.alpha, k.delta, k.zeta, k.z, k.theta]);
     output::integers(&polaris::catalogue(t, k.alpha, k.delta));

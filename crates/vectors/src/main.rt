@@ -82,8 +82,9 @@ fn answer_numbers(t: &SineTable, word: Word, n: [i64; lines::ROW])
         Word::Direction => angles::of_direction(t, n[0], n[1], n[2], n[3], n[4], n[5]),
         Word::Date => instant::date(n[0], n[1], n[2]),
         Word::Shot => instant::shot(t, &n),
+        Word::Parts => instant::at(t, word, &n),
         Word::Other => output::malformed(),
-        // The others ask of an instant.
-        _ => instant::at(t, word, &n),
+        // The others ask of an instant alone.
+        _ => instant::at(t, word, &instant::fields_of(n)),
     }
 }

@@ -73,19 +73,19 @@ fn fields_word(word: &[u8], count: usize) -> Word {
     if asks(word, count, b"date", 3) {
         return Word::Date;
     }
-    if asks(word, count, b"instant", 7) {
+    if asks(word, count, b"instant", 8) {
         return Word::Instant;
     }
-    if asks(word, count, b"longitude", 7) {
+    if asks(word, count, b"longitude", 8) {
         return Word::Longitude;
     }
-    if asks(word, count, b"sun", 7) {
+    if asks(word, count, b"sun", 8) {
         return Word::Sun;
     }
-    if asks(word, count, b"parts", 10) {
+    if asks(word, count, b"parts", 11) {
         return Word::Parts;
     }
-    if asks(word, count, b"shot", 10) {
+    if asks(word, count, b"shot", 11) {
         return Word::Shot;
     }
     Word::Other

@@ -19,7 +19,7 @@ use Rattle.exact.proofs.Integers.{abs-*-lt}
 use Rattle.exact.proofs.Machine.{ok-fits, fits-lt, fits-le}
 use Rattle.secular.specs.FlooredPolynomial.{polynomial, value}
 use Rattle.secular.specs.Sizes as Secular
-use Rattle.epoch.proofs.Sizes.{n-size, q-size, n-fits, q-fits}
+use Rattle.epoch.proofs.Sizes.{n-size, n-natural, q-size, n-fits, q-fits}
 use Rattle.arguments.specs.Argument.{argument}
 use Rattle.arguments.specs.Sizes.{RowSized}
 use Rattle.arguments.proofs.argument.Statement.{statement}
@@ -86,7 +86,7 @@ array-copy-out-per-century-2 c = search needs
 per-century-requires : tie.Need-per-century-requires
 per-century-requires c κs =
     let s = c .before .before .before .before in
-    simp (toZ-ofZ, fit s .1, n-fits (s .pre .1)) (sizes s .c1, n-size (s .pre .1))
+    simp (toZ-ofZ, fit s .1, n-fits (s .pre .1)) (sizes s .c1, n-natural (s .pre .1), n-size (s .pre .1))
 
 value-requires : tie.Need-value-requires
 value-requires c κs =

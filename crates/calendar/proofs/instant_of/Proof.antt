@@ -2,7 +2,7 @@
 use mathlib.Core.Path.{_≡_, sym, ap, ap₂, _∙_}
 use mathlib.Core.Bool.{true}
 use native.Mathlib.Omega.{arith}
-use lib.IntN.{natAbs}
+use lib.IntN.{ℤ, natAbs}
 use mir.Facts.{toZ-ofZ}
 use mir.Syntax.{w64}
 use mir.Val.{SFits}
@@ -10,19 +10,21 @@ use borrow.Author.Needs.{needs}
 use borrow.Author.Tests.{not-true, not-false}
 use Rattle.exact.proofs.Machine.{ok-fits}
 use Rattle.calendar.specs.Date.{dayCount, isDate}
-use Rattle.calendar.specs.Time.{isTime, dayMillisecond, isDut1, since1900, instant, epochsOf, accepted, instantOf}
+use Rattle.calendar.specs.Time.{isTime, dayMillisecond, isDut1, isDeltaT, since1900, instant, epochsOf, accepted, instantOf}
 use Rattle.calendar.specs.declared.CivilTime.{CivilTime}
 use Rattle.calendar.proofs.AcceptedRange.{date-range, time-range, dut1-le}
 use Rattle.calendar.proofs.instant_of.Statement.{statement}
 use Rattle.calendar.proofs.instant_of.Tie as tie
 
--- ---- the seven numbers fit
+-- ---- the eight numbers fit
 abbrev Fit : CivilTime → Type 0
 Fit t =
     SFits w64 (t .year) × SFits w64 (t .month) × SFits w64 (t .day) × SFits w64 (t .hour) × SFits w64 (t .minute) × SFits w64 (t .millisecond) × SFits w64 (t .dut1)
+    × SFits w64 (t .«delta_t»)
 
 fit : (c : tie.After-struct-told) → Fit (c .before .args .t)
 fit c = (
+  record { sfits = omega arith },
   record { sfits = omega arith },
   record { sfits = omega arith },
   record { sfits = omega arith },
@@ -96,74 +98,119 @@ returns-3 c =
     let b = c .before in
     (simp (date-in (timed b .before), time-in b, sym (dut1-test b) ∙ not-true _ (c .if3 .taken)), tt)
 
+module _ (c : tie.After-between2) where
+  abbrev earlier : tie.Else3
+  earlier = c .before .before
+
+  abbrev x : CivilTime
+  x = u (earlier .before)
+
+  x-fit : Fit x
+  x-fit = u-fit (earlier .before)
+
+  dut1-in : isDut1 (x .dut1) ≡ true
+  dut1-in = sym (dut1-test (earlier .before)) ∙ not-false _ (earlier .if3 .left)
+
+  delta-t-test : c .between2 .result ≡ isDeltaT (x .«delta_t»)
+  unfolding isDeltaT
+  delta-t-test = let f = x-fit .7 in simp (toZ-ofZ, f) at (c .between2 .ensures)
+
+between-requires-2 : tie.Need-between-requires-2
+between-requires-2 c κs = search needs
+
+returns-4 : tie.Need-returns-4
+unfolding instantOf
+returns-4 c =
+    let d = c .before in
+    let b = earlier d .before in
+    (simp (date-in (timed b .before), time-in b, dut1-in d, sym (delta-t-test d) ∙ not-true _ (c .if4 .taken)), tt)
+
 -- ---- an instant
-dut1-in : (c : tie.Else3) → isDut1 (u (c .before) .dut1) ≡ true
-dut1-in c = sym (dut1-test (c .before)) ∙ not-false _ (c .if3 .left)
+delta-t-in : (c : tie.Else4) → isDeltaT (x (c .before) .«delta_t») ≡ true
+delta-t-in c = sym (delta-t-test (c .before)) ∙ not-false _ (c .if4 .left)
 
 day-count-requires : tie.Need-day-count-requires
 day-count-requires c κs =
     let b = c .before .before .before .before in
-    let f = u-fit b in
-    simp (toZ-ofZ, f .0, f .1, f .2) (date-in (timed b .before))
+    let f = x-fit b in
+    simp (toZ-ofZ, f .0, f .1, f .2) (date-in (timed (earlier b .before) .before))
 
-module _ (c : tie.After-struct-told15) where
+module _ (c : tie.After-struct-told16) where
   abbrev counted : tie.After-day-count
   counted = c .before .before .before
 
-  abbrev tested : tie.After-between
-  tested = counted .before .before .before .before .before
+  abbrev passed : tie.Else4
+  passed = counted .before .before .before .before
 
   abbrev v : CivilTime
-  v = u tested
+  v = x (passed .before)
+
+  fit-all : Fit v
+  fit-all = x-fit (passed .before)
+
+  date-known : isDate (v .year) (v .month) (v .day) ≡ true
+  date-known = date-in (timed (earlier (passed .before) .before) .before)
+
+  time-known : isTime (v .month) (v .day) (v .hour) (v .minute) (v .millisecond) ≡ true
+  time-known = time-in (earlier (passed .before) .before)
 
 day-millisecond-requires : tie.Need-day-millisecond-requires
 day-millisecond-requires c κs =
-    let f = u-fit (tested c) in
-    simp (toZ-ofZ, f .3, f .4, f .5) (time-range (v c .month) (v c .day) (v c .hour) (v c .minute) (v c .millisecond) (time-in (tested c)))
+    let f = fit-all c in
+    simp (toZ-ofZ, f .3, f .4, f .5) (time-range (v c .month) (v c .day) (v c .hour) (v c .minute) (v c .millisecond) (time-known c))
 
 module _ (c : tie.After-day-millisecond) where
   abbrev w : CivilTime
   w = v (c .before)
 
   day-is : counted (c .before) .day-count .result ≡ dayCount (natAbs (w .year)) (natAbs (w .month)) (natAbs (w .day))
-  day-is = let f = u-fit (tested (c .before)) in simp (toZ-ofZ, f .0, f .1, f .2) at (counted (c .before) .day-count .ensures)
+  day-is = let f = fit-all (c .before) in simp (toZ-ofZ, f .0, f .1, f .2) at (counted (c .before) .day-count .ensures)
 
   ms-is : c .day-millisecond .result ≡ dayMillisecond (w .hour) (w .minute) (w .millisecond)
-  ms-is = let f = u-fit (tested (c .before)) in simp (toZ-ofZ, f .3, f .4, f .5) at (c .day-millisecond .ensures)
+  ms-is = let f = fit-all (c .before) in simp (toZ-ofZ, f .3, f .4, f .5) at (c .day-millisecond .ensures)
 
 since-1900-requires : tie.Need-since-1900-requires
 since-1900-requires c κs =
     let d = c .before in
-    let x = w d in
-    let b = tested (d .before) in
-    let day = date-range (x .year) (x .month) (x .day) (date-in (timed b .before)) in
-    let ms = time-range (x .month) (x .day) (x .hour) (x .minute) (x .millisecond) (time-in b) in
-    simp (toZ-ofZ, u-fit b .6)
-    (omega (arith, day-is d, day), omega (arith, ms-is d, ms), dut1-le (x .dut1) (dut1-in (counted (d .before) .before .before .before .before)))
+    let y = w d in
+    let b = d .before in
+    let day = date-range (y .year) (y .month) (y .day) (date-known b) in
+    let ms = time-range (y .month) (y .day) (y .hour) (y .minute) (y .millisecond) (time-known b) in
+    simp (toZ-ofZ, fit-all b .6)
+    (omega (arith, day-is d, day), omega (arith, ms-is d, ms), dut1-le (y .dut1) (dut1-in (passed b .before)))
 
-n-fits : (c : tie.After-since-1900) → SFits w64 (c .since-1900 .result)
-n-fits c = ok-fits (c .since-1900 .result) (c .since-1900 .ok)
+module _ (c : tie.After-since-1900) where
+  abbrev y : CivilTime
+  y = w (c .before .before)
+
+  abbrev before-day : tie.After-struct-told16
+  before-day = c .before .before .before
+
+  n-fits : SFits w64 (c .since-1900 .result)
+  n-fits = ok-fits (c .since-1900 .result) (c .since-1900 .ok)
+
+  n-is : c .since-1900 .result ≡ instant y
+  unfolding instant
+  n-is =
+      let d = c .before .before in
+      (simp (toZ-ofZ, fit-all before-day .6) at (c .since-1900 .ensures .0)) ∙ ap₂ (λ day ms. since1900 day ms (y .dut1)) (day-is d) (ms-is d)
 
 epochs-of-requires : tie.Need-epochs-of-requires
-epochs-of-requires c κs = simp (toZ-ofZ, n-fits c) (c .since-1900 .ensures .1)
-
-n-is : (c : tie.After-since-1900) → c .since-1900 .result ≡ instant (w (c .before .before))
-unfolding instant
-n-is c =
-    let d = c .before .before in
-    (simp (toZ-ofZ, u-fit (tested (d .before)) .6) at (c .since-1900 .ensures .0)) ∙ ap₂ (λ day ms. since1900 day ms (w d .dut1)) (day-is d) (ms-is d)
-
-returns-4 : tie.Need-returns-4
-unfolding instantOf
-returns-4 c =
+epochs-of-requires c κs =
     let n = c .before in
-    let d = n .before .before .before in
-    let b = tested d in
-    let e = (simp (toZ-ofZ, n-fits n) at (c .epochs-of .ensures .0)) ∙ ap epochsOf (n-is n) in
-    simp (date-in (timed b .before), time-in b, dut1-in (counted d .before .before .before .before)) (ap accepted e, c .epochs-of .ensures .1)
+    simp (toZ-ofZ, n-fits n, fit-all (before-day n) .7) (n .since-1900 .ensures .1, delta-t-in (passed (before-day n)))
+
+returns-5 : tie.Need-returns-5
+unfolding instantOf
+returns-5 c =
+    let n = c .before .before in
+    let b = before-day n in
+    let d = passed b in
+    let e = (simp (toZ-ofZ, n-fits n, fit-all b .7) at (c .epochs-of .ensures .0)) ∙ ap (λ (z : ℤ). epochsOf z (y n .«delta_t»)) (n-is n) in
+    simp (date-known b, time-known b, dut1-in (d .before), delta-t-in d) (ap accepted e, c .epochs-of .ensures .1)
 
 pub instant-of-spec : {M : Type 1} → statement M
 instant-of-spec =
     tie.close
-    (tie.spec is-date-requires returns is-time-requires returns-2 between-requires returns-3 day-count-requires day-millisecond-requires since-1900-requires
-    epochs-of-requires returns-4)
+    (tie.spec is-date-requires returns is-time-requires returns-2 between-requires returns-3 between-requires-2 returns-4 day-count-requires
+    day-millisecond-requires since-1900-requires epochs-of-requires returns-5)

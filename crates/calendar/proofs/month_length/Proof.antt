@@ -1,4 +1,5 @@
 use mathlib.Core.Path.{sym, _∙_}
+use mathlib.Core.Bool.{false}
 use Prim.Native.Nat.{_-_}
 use native.Mathlib.Omega.{arith}
 use borrow.Author.Needs.{needs}
@@ -10,11 +11,11 @@ use Rattle.calendar.proofs.month_length.Tie as tie
 sub-result : tie.Need-sub-result
 sub-result c = search needs
 
-mul-result : tie.Need-mul-result
-mul-result c = search needs
-
 array-read-result : tie.Need-array-read-result
 array-read-result c = search needs
+
+cast-result : tie.Need-cast-result
+cast-result c = record { fits = omega (arith, month false (c .before .args .month - 1) (omega arith) .length-le) }
 
 returns : tie.Need-returns
 unfolding monthLength
@@ -35,4 +36,4 @@ unfolding monthLength
 returns-3 c = let l = c .before in (simp (l .before .if1 .left, sym (l .leap-year .ensures) ∙ c .if2 .left), omega arith)
 
 pub month-length-spec : {M : Type 1} → statement M
-month-length-spec = tie.close (tie.spec sub-result mul-result array-read-result returns leap-year-requires returns-2 returns-3)
+month-length-spec = tie.close (tie.spec sub-result array-read-result cast-result returns leap-year-requires returns-2 returns-3)

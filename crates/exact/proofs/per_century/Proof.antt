@@ -1,6 +1,6 @@
 -- C is a whole centuries and a rest, and the floor of the rest's product moves by the a * n of the whole ones.
-use mathlib.Core.Path.{_≡_, refl, sym, ap, _∙_}
-use Prim.Native.Nat.{_*_, _<_, _≤_, _^_}
+use mathlib.Core.Path.{_≡_, refl, sym, ap, ap₂, _∙_}
+use Prim.Native.Nat.{ℕ, _*_, _/_, _<_, _≤_, _^_}
 use native.Mathlib.Nat.{le-of-lt}
 use native.Mathlib.Omega.{arith}
 use lib.Dec.{lit<}
@@ -22,9 +22,10 @@ use Rattle.exact.proofs.per_century.Tie as tie
 abbrev rest : ℤ → ℤ → ℤ
 rest c a = c -ℤ pos century *ℤ a
 
-law : (c a n : ℤ) → pos 0 ≤ℤ rest c a → floorDiv (pos (natAbs (rest c a)) *ℤ n) century +ℤ a *ℤ n ≡ floorDiv (c *ℤ n) century
-law c a n h =
-    ap (λ (z : ℤ). floorDiv (z *ℤ n) century +ℤ a *ℤ n) (pos-natAbs (rest c a) (yes-nonNeg h))
+law : (c a n : ℤ) → pos 0 ≤ℤ rest c a → pos 0 ≤ℤ n → pos (natAbs (rest c a) * natAbs n / century) +ℤ a *ℤ n ≡ floorDiv (c *ℤ n) century
+unfolding floorDiv
+law c a n h k =
+    ap₂ (λ (z m : ℤ). floorDiv (z *ℤ m) century +ℤ a *ℤ n) (pos-natAbs (rest c a) (yes-nonNeg h)) (pos-natAbs n (yes-nonNeg k))
     ∙ sym (floor-add (rest c a *ℤ n) (a *ℤ n) century (lit< tt)) ∙ ap (λ (z : ℤ). floorDiv z century) (back c a n)
   where
     back : (c a n : ℤ) → rest c a *ℤ n +ℤ pos century *ℤ (a *ℤ n) ≡ c *ℤ n
@@ -64,29 +65,34 @@ module _ (x : tie.After-floor-div) where
   known = parts c a (x .before .pre .0) (simp (toZ-ofZ, x .before .fits .c) at (x .floor-div .ensures))
 
   product-fits : SFits w64 (a *ℤ n)
-  product-fits = fits-le (12 * 2 ^ 43) _ (abs-*-le a n 12 (2 ^ 43) (known .small) (le-of-lt (x .before .pre .1))) refl
+  product-fits = fits-le (12 * 2 ^ 43) _ (abs-*-le a n 12 (2 ^ 43) (known .small) (le-of-lt (x .before .pre .2))) refl
 
 module _ (y : tie.After-rest-per-century) where
   abbrev earlier : tie.After-floor-div
   earlier = y .before
 
-  abbrev r : ℤ
+  abbrev r : ℕ
   r = y .rest-per-century .result
 
-  r-fits : SFits w64 r
-  r-fits = ok-fits r (y .rest-per-century .ok)
-
-  result-is : r +ℤ a earlier *ℤ n earlier ≡ floorDiv (c earlier *ℤ n earlier) century
-  result-is =
+  -- both numbers as the call was given them
+  called : (r ≡ natAbs (rest (c earlier) (a earlier)) * natAbs (n earlier) / century) × (r ≤ natAbs (n earlier))
+  called =
       let x = earlier in
       let k = known x in
-      let e = simp (toZ-ofZ, x .before .fits .c, x .before .fits .n, a-fits x, k .centuries, k .fits) at (y .rest-per-century .ensures) in
-      ap (λ (z : ℤ). z +ℤ a x *ℤ n x) e ∙ law (c x) (a x) (n x) (k .low)
+      simp (toZ-ofZ, x .before .fits .c, x .before .fits .n, a-fits x, k .centuries, k .fits) at (y .rest-per-century .ensures)
 
-  result-fits : SFits w64 (r +ℤ a earlier *ℤ n earlier)
+  r-fits : SFits w64 (pos r)
+  r-fits = record { sfits = omega (arith, called .1, earlier .before .pre .2) }
+
+  result-is : pos r +ℤ a earlier *ℤ n earlier ≡ floorDiv (c earlier *ℤ n earlier) century
+  result-is =
+      let x = earlier in
+      ap (λ (k : ℕ). pos k +ℤ a x *ℤ n x) (called .0) ∙ law (c x) (a x) (n x) (known x .low) (x .before .pre .1)
+
+  result-fits : SFits w64 (pos r +ℤ a earlier *ℤ n earlier)
   result-fits =
       let s = earlier .before in
-      let le = abs-*-le (s .args .c) (s .args .n) (2 ^ 45) (2 ^ 43) (le-of-lt (s .pre .0)) (le-of-lt (s .pre .1)) in
+      let le = abs-*-le (s .args .c) (s .args .n) (2 ^ 45) (2 ^ 43) (le-of-lt (s .pre .0)) (le-of-lt (s .pre .2)) in
       rw result-is (fits-le (2 ^ 47) _ (floor-abs _ century (2 ^ 47) (lit< tt) (omega (arith, le))) refl)
 
 -- ---- the needs
@@ -102,10 +108,16 @@ sub-rest-per-century x = simp (toZ-ofZ, x .before .fits .c, a-fits x, known x .c
 cast-rest-per-century : tie.Need-cast-rest-per-century
 cast-rest-per-century x = let k = known x in simp (toZ-ofZ, x .before .fits .c, a-fits x, k .centuries, k .fits) (to-nat _ (k .low) (k .fits))
 
+cast-rest-per-century-2 : tie.Need-cast-rest-per-century-2
+cast-rest-per-century-2 x = let s = x .before in simp (toZ-ofZ, s .fits .n) (to-nat (s .args .n) (s .pre .1) (s .fits .n))
+
 rest-per-century-requires : tie.Need-rest-per-century-requires
 rest-per-century-requires x κs =
     let k = known x in
-    simp (toZ-ofZ, x .before .fits .c, x .before .fits .n, a-fits x, k .centuries, k .fits) (k .high, x .before .pre .1)
+    simp (toZ-ofZ, x .before .fits .c, x .before .fits .n, a-fits x, k .centuries, k .fits) (k .high, x .before .pre .2)
+
+cast-result : tie.Need-cast-result
+cast-result y = r-fits y
 
 mul-result : tie.Need-mul-result
 mul-result y = let x = y .before in simp (toZ-ofZ, a-fits x, x .before .fits .n) (product-fits x)
@@ -119,4 +131,5 @@ returns y = let x = y .before in simp (toZ-ofZ, a-fits x, x .before .fits .n, pr
 pub per-century-spec : {M : Type 1} → statement M
 per-century-spec =
     tie.close
-    (tie.spec floor-div-requires mul-rest-per-century sub-rest-per-century cast-rest-per-century rest-per-century-requires mul-result add-result returns)
+    (tie.spec floor-div-requires mul-rest-per-century sub-rest-per-century cast-rest-per-century cast-rest-per-century-2 rest-per-century-requires cast-result
+    mul-result add-result returns)

@@ -18,7 +18,7 @@ module _ (c : tie.After-pointing) where
   abbrev x : Numbers
   x =
       let a = c .before .before .before .args in
-      numbers (a .year) (a .month) (a .day) (a .hour) (a .minute) (a .millisecond) (a .dut1) (a .latitude) (a .longitude) (a .body)
+      numbers (a .year) (a .month) (a .day) (a .hour) (a .minute) (a .millisecond) (a .dut1) (a .latitude) (a .longitude) (a .body) (a .delta-t)
 
   abbrev angle : ℤ
   angle = c .before .before .before .args .angle
@@ -29,7 +29,7 @@ module _ (c : tie.After-pointing) where
       let n = c .before .numbers-of .ensures in
       let is = c .pointing .ensures in
       subst (IsPointing x angle) e
-      (simp (n, toZ-ofZ, f .year, f .month, f .day, f .hour, f .minute, f .millisecond, f .dut1, f .latitude, f .longitude, f .body, f .angle) at is)
+      (simp (n, toZ-ofZ, f .year, f .month, f .day, f .hour, f .minute, f .millisecond, f .dut1, f .latitude, f .longitude, f .body, f .delta-t, f .angle) at is)
 
 slice-aggregate-numbers-of : tie.Need-slice-aggregate-numbers-of
 slice-aggregate-numbers-of c = search needs

@@ -17,7 +17,7 @@ module _ (c : tie.After-shot) where
   abbrev x : Numbers
   x =
       let a = c .before .before .before .args in
-      numbers (a .year) (a .month) (a .day) (a .hour) (a .minute) (a .millisecond) (a .dut1) (a .latitude) (a .longitude) (a .body)
+      numbers (a .year) (a .month) (a .day) (a .hour) (a .minute) (a .millisecond) (a .dut1) (a .latitude) (a .longitude) (a .body) (a .delta-t)
 
   values-of : (o : Outcome) → c .shot .result ≡ o → IsShot x o
   values-of o e =
@@ -25,7 +25,7 @@ module _ (c : tie.After-shot) where
       let n = c .before .numbers-of .ensures in
       let is = c .shot .ensures in
       subst (IsShot x) e
-      (simp (n, toZ-ofZ, f .year, f .month, f .day, f .hour, f .minute, f .millisecond, f .dut1, f .latitude, f .longitude, f .body) at is)
+      (simp (n, toZ-ofZ, f .year, f .month, f .day, f .hour, f .minute, f .millisecond, f .dut1, f .latitude, f .longitude, f .body, f .delta-t) at is)
 
 slice-aggregate-numbers-of : tie.Need-slice-aggregate-numbers-of
 slice-aggregate-numbers-of c = search needs
