@@ -1,5 +1,5 @@
 //! The card: what was heard, read out and confirmed of each field. Document 01, "The card";
-//! document 02, request 3.
+//! document 02, requests 3 and 4.
 
 use crate::digits::text;
 #[cfg(test)]
@@ -33,11 +33,16 @@ impl Default for Card {
 }
 
 impl Card {
-    /// A fresh card: DUT1 is confirmed as 0, and the other fields are empty.
+    /// A fresh card: every field is empty.
     pub fn fresh() -> Self {
-        let mut fields = [Field::Empty; 11];
-        fields[6] = Field::Confirmed(0);
-        Card { fields }
+        Card { fields: [Field::Empty; 11] }
+    }
+
+    /// The start before request 4: DUT1 is confirmed as 0, and the other fields are empty.
+    pub fn fresh_with_dut1_assumed_zero() -> Self {
+        let mut card = Card::fresh();
+        card.fields[6] = Field::Confirmed(0);
+        card
     }
 
     /// The fields, field 1 first.
@@ -110,11 +115,16 @@ impl Card {
     pub fn confirmed(numbers: &Fields) -> Self {
         let mut card = Card::fresh();
         for (field, &number) in (1..).zip(numbers) {
-            card.hear(field, number).unwrap();
-            card.read(field, 0, &mut [0; LONGEST]).unwrap();
-            card.confirm(field).unwrap();
+            card.enter(field, number);
         }
         card
+    }
+
+    /// Hears a number for a field, reads it out and confirms it.
+    fn enter(&mut self, field: i64, number: i64) {
+        self.hear(field, number).unwrap();
+        self.read(field, 0, &mut [0; LONGEST]).unwrap();
+        self.confirm(field).unwrap();
     }
 }
 
@@ -146,6 +156,31 @@ mod tests {
         assert_eq!(card.shot(&sine), Err(Refusal::NoSuchDate));
         card.hear(11, 0).unwrap();
         assert_eq!(card.shot(&sine), refused);
+    }
+
+    /// The two starts differ in DUT1 alone: on a fresh card nobody has said it, on the other
+    /// one its 0 stands and is taken by a shot until DUT1 is heard.
+    #[test]
+    fn dut1_is_empty_on_a_fresh_card() {
+        let sine = Sine::new();
+        let (mut fresh, mut assumed) = (Card::fresh(), Card::fresh_with_dut1_assumed_zero());
+        assert_eq!(fresh.fields(), &[Field::Empty; 11]);
+        for (i, field) in assumed.fields().iter().enumerate() {
+            assert_eq!(*field, if i == 6 { Field::Confirmed(0) } else { Field::Empty });
+        }
+        for card in [&mut fresh, &mut assumed] {
+            for (field, number) in (1..).zip(FIELDS).filter(|&(field, _)| field != 7) {
+                card.enter(field, number);
+            }
+        }
+        let mut with_zero = FIELDS;
+        with_zero[6] = 0;
+        assert_eq!(fresh.shot(&sine), Err(Refusal::FieldNotConfirmed));
+        assert_eq!(assumed.shot(&sine), shot(&sine, &with_zero));
+        assumed.hear(7, 0).unwrap();
+        assert_eq!(assumed.shot(&sine), Err(Refusal::FieldNotConfirmed));
+        fresh.enter(7, FIELDS[6]);
+        assert_eq!(fresh.shot(&sine), shot(&sine, &FIELDS));
     }
 
     #[test]

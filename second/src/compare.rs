@@ -1,16 +1,17 @@
 //! Comparison of another program, or of a library's functions of plain numbers, with this
 //! one on random input, and of a library with the outside vectors.
 
+use crate::card::Card;
 use crate::counts::{answered_or, Counts, Outcome};
 use crate::lines::joined;
 use crate::question::{answer_text, asked_by_vector, BatchQuestion, LibraryAnswer, Question};
 use crate::random::Random;
 use crate::random_lines::Lines;
-use crate::replay::batch_line;
+use crate::replay::{batch_line, card_line, refused};
 use crate::sine::Sine;
 
-/// The most lines of a short session.
-const SHORT: i64 = 2_000;
+/// The most lines of a short session, and of a run of calls on cards.
+const SHORT: u64 = 2_000;
 
 /// A way to ask a library, and its name.
 pub type Way<'a, Q> = (&'a str, &'a dyn Fn(&Q) -> LibraryAnswer<Q>);
@@ -26,15 +27,26 @@ pub fn random_batch<Q: BatchQuestion>(sine: &Sine, seed: u64, count: u64) -> Vec
     text
 }
 
-/// This program's answers to the lines of a batch.
-pub fn batch_answers<Q: BatchQuestion>(sine: &Sine, input: &[u8]) -> Vec<u8> {
+/// A line for each line.
+fn answers(input: &[u8], mut answer: impl FnMut(&[u8]) -> String) -> Vec<u8> {
     let mut answers = Vec::new();
     for line in input.split_inclusive(|&byte| byte == b'\n') {
         let line = line.strip_suffix(b"\n").unwrap_or(line);
-        answers.extend(batch_line::<Q>(sine, line).bytes());
+        answers.extend(answer(line).bytes());
         answers.push(b'\n');
     }
     answers
+}
+
+/// This program's answers to the lines of a batch.
+pub fn batch_answers<Q: BatchQuestion>(sine: &Sine, input: &[u8]) -> Vec<u8> {
+    answers(input, |line| batch_line::<Q>(sine, line))
+}
+
+/// This program's answers to calls on a card.
+pub fn call_answers(sine: &Sine, input: &[u8]) -> Vec<u8> {
+    let mut card = Card::fresh();
+    answers(input, |line| card_line(sine, &mut card, line).unwrap_or_else(refused))
 }
 
 /// The outcomes that a batch reaches: 14 too, where a number has more digits than a line's may.
@@ -50,11 +62,18 @@ pub fn random_sessions(seed: u64, count: u64) -> Vec<(u64, u64)> {
     let mut sessions = vec![(seed, count.div_ceil(2))];
     let mut rest = count / 2;
     while rest > 0 {
-        let lines = rest.min(random.between(1, SHORT) as u64);
+        let lines = rest.min(random.between(1, SHORT as i64) as u64);
         sessions.push((random.bits(), lines));
         rest -= lines;
     }
     sessions
+}
+
+/// The seed and the number of lines of each run of random calls, `count` lines in all.
+pub fn random_runs(seed: u64, count: u64) -> Vec<(u64, u64)> {
+    let mut random = Random::new(seed);
+    let runs = (0..count).step_by(SHORT as usize);
+    runs.map(|done| (random.bits(), SHORT.min(count - done))).collect()
 }
 
 /// The lines of one random session; with an odd seed the last one has no newline, unless it
@@ -77,8 +96,18 @@ pub fn outcomes_of_sessions() -> Vec<Outcome> {
     answered_or((1..=10).chain([12, 13, 14, 17]))
 }
 
-/// Counts the lines of two outputs that must be equal, or says where they part.
-pub fn equal_outputs(expected: &[u8], given: &[u8]) -> Result<Counts, String> {
+/// The outcomes that calls on a card reach.
+pub fn outcomes_of_calls() -> Vec<Outcome> {
+    answered_or((1..=13).chain([17]))
+}
+
+/// Counts the lines of two outputs that must be equal, each by its outcome, or says where they
+/// part.
+pub fn equal_outputs(
+    expected: &[u8],
+    given: &[u8],
+    outcome: fn(&str) -> Outcome,
+) -> Result<Counts, String> {
     let mut counts = Counts::default();
     let mut given_lines = given.split_inclusive(|&byte| byte == b'\n');
     for (i, line) in expected.split_inclusive(|&byte| byte == b'\n').enumerate() {
@@ -88,7 +117,7 @@ pub fn equal_outputs(expected: &[u8], given: &[u8]) -> Result<Counts, String> {
             let other = String::from_utf8_lossy(other);
             return Err(format!("line {}: {text:?} expected, {other:?} given", i + 1));
         }
-        counts.add_line(text.trim_end());
+        counts.add(outcome(text.trim_end()), 1);
     }
     match given_lines.next() {
         Some(_) => Err("the other output has more lines".to_string()),

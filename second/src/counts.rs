@@ -20,18 +20,29 @@ pub enum Outcome {
     Tie,
     /// By the refusal's number.
     Refused(u64),
-    /// A line that is none of these: `ok` or a text read back.
+    /// One that is none of these: a call on a card that is accepted, or the card's start.
     Other,
 }
 
 impl Outcome {
-    /// The outcome of a line of a program's output.
-    fn of_line(line: &str) -> Self {
+    /// The outcome of a line of the output of `shots`, `pointings` or `session`.
+    pub fn of_line(line: &str) -> Self {
         let number = line.strip_prefix("no ").and_then(|text| text.parse().ok());
         match number {
             Some(number) => Outcome::Refused(number),
             None if line.starts_with("az ") || line.starts_with("mark ") => Outcome::Answered,
             None => Outcome::Other,
+        }
+    }
+
+    /// The outcome of a call on a card, of which the refusal's number stands first; an answered
+    /// shot has four angles between that and the card.
+    pub fn of_call(line: &str) -> Self {
+        let words: Vec<&str> = line.split(' ').collect();
+        match words[0].parse() {
+            Ok(0) if words.get(5) == Some(&"|") => Outcome::Answered,
+            Ok(0) | Err(_) => Outcome::Other,
+            Ok(number) => Outcome::Refused(number),
         }
     }
 }
@@ -64,11 +75,6 @@ impl Counts {
     /// Counts an outcome as met some times more.
     pub fn add(&mut self, outcome: Outcome, times: u64) {
         *self.counts.entry(outcome).or_default() += times;
-    }
-
-    /// Counts one line of a program's output.
-    pub fn add_line(&mut self, line: &str) {
-        self.add(Outcome::of_line(line), 1);
     }
 
     /// Adds the counts of another run.

@@ -22,6 +22,7 @@ pub mod polaris;
 pub mod polynomial;
 pub mod question;
 pub mod random;
+pub mod random_calls;
 pub mod random_choices;
 pub mod random_lines;
 pub mod refusal;

@@ -3,13 +3,14 @@
 use second::bench::{answered_shots, time_shots};
 use second::card::Card;
 use second::compare::{
-    batch_answers, equal_outputs, outcomes_of_a_batch, outcomes_of_sessions, random_batch,
-    random_lines, random_sessions,
+    batch_answers, call_answers, equal_outputs, outcomes_of_a_batch, outcomes_of_calls,
+    outcomes_of_sessions, random_batch, random_lines, random_runs, random_sessions,
 };
-use second::counts::{Counts, LEAST};
+use second::counts::{Counts, Outcome, LEAST};
 use second::lines::joined;
 use second::polynomial::Polynomial;
 use second::question::{BatchQuestion, Choice, Pointing, Shot};
+use second::random_calls::{random_calls, Start};
 use second::refusal::Refusal;
 use second::replay;
 use second::session;
@@ -30,17 +31,19 @@ usage: second COMMAND, from standard input to standard output, a line for a line
   sine                        a -> Sin(a) Cos(a)
   angle                       x y -> angle(x, y)
   choice                      two lists -> refusal, which list, its length
-  card                        fresh, hear, read, confirm, shot, pointing -> result and card
+  card                        fresh, old, hear, read, confirm, shot, pointing -> result and card
   count-refusals              answers of the first three -> how often each was given
 without input:
   random-shots SEED COUNT     lines of eleven numbers
   random-pointings SEED COUNT lines of twelve numbers
   random-lines SEED COUNT     the lines of a session, good and damaged
+  random-calls START SEED COUNT   calls on cards, each from a START, fresh or old
   bench-shots                 the shots that bench times, as lines of eleven numbers
   bench COUNT [sun|polaris]   nanoseconds per shot, of both bodies or one
   compare-shots SEED COUNT PROGRAM...     PROGRAM's answers to random-shots with these
   compare-pointings SEED COUNT PROGRAM... the same for random-pointings
-  compare-session SEED COUNT PROGRAM...   the same for sessions of random-lines, COUNT in all";
+  compare-session SEED COUNT PROGRAM...   the same for sessions of random-lines, COUNT in all
+  compare-calls START SEED COUNT PROGRAM...   the same for runs of random-calls, COUNT in all";
 
 type Done = Result<(), Box<dyn Error>>;
 
@@ -80,6 +83,9 @@ fn dispatch(words: &[&str]) -> Done {
             print(&random_batch::<Pointing>(&sine, seed.parse()?, count.parse()?))
         }
         ["random-lines", seed, count] => print(&random_lines(&sine, seed.parse()?, count.parse()?)),
+        ["random-calls", start, seed, count] => {
+            print(&random_calls(&sine, start.parse()?, seed.parse()?, count.parse()?))
+        }
         ["bench-shots"] => bench_shots(&sine),
         ["bench", count] => bench(&sine, count.parse()?, 1..=2),
         ["bench", count, "sun"] => bench(&sine, count.parse()?, 1..=1),
@@ -92,6 +98,10 @@ fn dispatch(words: &[&str]) -> Done {
         }
         ["compare-session", seed, count, ref program @ ..] => {
             compare_sessions(&sine, &random_sessions(seed.parse()?, count.parse()?), program)
+        }
+        ["compare-calls", start, seed, count, ref program @ ..] => {
+            let runs = random_runs(seed.parse()?, count.parse()?);
+            compare_calls(&sine, start.parse()?, &runs, program)
         }
         _ => Err(USAGE.into()),
     }
@@ -133,7 +143,7 @@ fn each_vector(mut answer: impl FnMut(&[u8]) -> Result<String, Refusal>) -> Done
 fn count_refusals() -> Done {
     let mut counts = Counts::default();
     for line in io::stdin().lock().lines() {
-        counts.add_line(&line?);
+        counts.add(Outcome::of_line(&line?), 1);
     }
     print(format!("{counts}\n").as_bytes())
 }
@@ -158,23 +168,53 @@ fn bench(sine: &Sine, count: u64, bodies: RangeInclusive<i64>) -> Done {
 fn compare_batch<Q: BatchQuestion>(sine: &Sine, seed: u64, count: u64, program: &[&str]) -> Done {
     let input = random_batch::<Q>(sine, seed, count);
     let answers = batch_answers::<Q>(sine, &input);
-    let counts = equal_outputs(&answers, &output_of(program, input)?)?;
+    let counts = equal_outputs(&answers, &output_of(program, input)?, Outcome::of_line)?;
     print(format!("{counts}\n").as_bytes())?;
     Ok(counts.all_reached(&outcomes_of_a_batch::<Q>(), LEAST)?)
 }
 
 /// Compares another program's sessions, each from a fresh start, with these.
 fn compare_sessions(sine: &Sine, sessions: &[(u64, u64)], program: &[&str]) -> Done {
-    let mut counts = Counts::default();
-    for &(seed, lines) in sessions {
+    let asked = |seed, lines| {
         let input = random_lines(sine, seed, lines);
         let mut answers = Vec::new();
         session::run(sine, input.as_slice(), &mut answers)?;
-        let agreed = equal_outputs(&answers, &output_of(program, input)?);
-        counts.add_all(&agreed.map_err(|error| format!("random-lines {seed} {lines}: {error}"))?);
-    }
+        Ok((input, answers))
+    };
+    let counts = compare_runs("random-lines", sessions, asked, Outcome::of_line, program)?;
     print(format!("sessions {}, {counts}\n", sessions.len()).as_bytes())?;
     Ok(counts.all_reached(&outcomes_of_sessions(), LEAST)?)
+}
+
+/// Compares another program's answers to runs of calls on cards, each from a start, with these.
+fn compare_calls(sine: &Sine, start: Start, runs: &[(u64, u64)], program: &[&str]) -> Done {
+    let asked = |seed, lines| {
+        let input = random_calls(sine, start, seed, lines);
+        let answers = call_answers(sine, &input);
+        Ok((input, answers))
+    };
+    let kind = format!("random-calls {}", start.word());
+    let counts = compare_runs(&kind, runs, asked, Outcome::of_call, program)?;
+    print(format!("runs {}, {counts}\n", runs.len()).as_bytes())?;
+    Ok(counts.all_reached(&outcomes_of_calls(), LEAST)?)
+}
+
+/// Compares another program's outputs with these: for the seed and the number of lines of each
+/// run, `asked` gives the input and this program's answers.
+fn compare_runs(
+    kind: &str,
+    runs: &[(u64, u64)],
+    asked: impl Fn(u64, u64) -> io::Result<(Vec<u8>, Vec<u8>)>,
+    outcome: fn(&str) -> Outcome,
+    program: &[&str],
+) -> Result<Counts, Box<dyn Error>> {
+    let mut counts = Counts::default();
+    for &(seed, lines) in runs {
+        let (input, answers) = asked(seed, lines)?;
+        let agreed = equal_outputs(&answers, &output_of(program, input)?, outcome);
+        counts.add_all(&agreed.map_err(|error| format!("{kind} {seed} {lines}: {error}"))?);
+    }
+    Ok(counts)
 }
 
 /// What another program writes for an input.

@@ -76,16 +76,15 @@ fn refusal_number<T>(result: Result<T, Refusal>) -> i64 {
     result.map_or_else(Refusal::number, |_| 0)
 }
 
-/// One call on the card: `fresh`, `hear F N`, `read F PLACE BUFFER`, `confirm F`, `shot` or
-/// `pointing A` -> what it returned, then the card's fields.
+/// One call on the card: `fresh`, `old` (the start before request 4), `hear F N`,
+/// `read F PLACE BUFFER`, `confirm F`, `shot` or `pointing A` -> what it returned, then the
+/// card's fields.
 pub fn card_line(sine: &Sine, card: &mut Card, line: &[u8]) -> Result<String, Refusal> {
     let words = words(line);
     let number = |i: usize| number(words[i], MOST_DIGITS);
     let returned = match (words[0], words.len()) {
-        (b"fresh", 1) => {
-            *card = Card::fresh();
-            String::new()
-        }
+        (b"fresh", 1) => start_from(card, Card::fresh()),
+        (b"old", 1) => start_from(card, Card::fresh_with_dut1_assumed_zero()),
         (b"hear", 3) => format!("{} ", refusal_number(card.hear(number(1)?, number(2)?))),
         (b"confirm", 2) => format!("{} ", refusal_number(card.confirm(number(1)?))),
         (b"read", 4) => read_call(card, number(1)?, number(2)?, words[3])?,
@@ -95,6 +94,12 @@ pub fn card_line(sine: &Sine, card: &mut Card, line: &[u8]) -> Result<String, Re
     };
     let fields: Vec<String> = card.fields().iter().map(field_text).collect();
     Ok(format!("{returned}| {}", fields.join(" ")))
+}
+
+/// A card in place of another, which returns nothing.
+fn start_from(card: &mut Card, start: Card) -> String {
+    *card = start;
+    String::new()
 }
 
 /// Reads a field into a buffer given in hex: refusal, length and the buffer after.
@@ -143,7 +148,7 @@ fn from_hex(hex: &[u8]) -> Result<Vec<u8>, Refusal> {
 }
 
 /// A buffer in hex; `-` is the empty one.
-fn to_hex(bytes: &[u8]) -> String {
+pub fn to_hex(bytes: &[u8]) -> String {
     if bytes.is_empty() {
         return "-".to_string();
     }
@@ -160,7 +165,7 @@ mod tests {
         let sine = Sine::new();
         let mut card = Card::fresh();
         let mut answer = |line: &str| card_line(&sine, &mut card, line.as_bytes());
-        let fresh = "| e e e e e e c0 e e e e";
+        let fresh = "| e e e e e e e e e e e";
         assert_eq!(answer("pointing -1"), Ok(format!("1 0 {fresh}")));
         let fields = [1978, 11, 13, 16, 14, 55_172, -397, -1_338_869, -2_103_302, 1, 50_440];
         for (field, number) in (1..).zip(fields) {

@@ -13,7 +13,7 @@ pub const MOST_DIGITS: usize = 9;
 
 /// A line of the session.
 #[derive(Clone, Copy, Debug, PartialEq, Eq)]
-enum Command {
+pub enum Command {
     Hear(i64, i64),
     Read(i64),
     Confirm(i64),
@@ -21,7 +21,7 @@ enum Command {
 }
 
 /// The command of a line without its newline, or refusal 14.
-fn command(line: &[u8]) -> Result<Command, Refusal> {
+pub fn command(line: &[u8]) -> Result<Command, Refusal> {
     let words = words(line);
     let number = |i: usize| number(words[i], MOST_DIGITS);
     match (words[0], words.len()) {
@@ -107,7 +107,7 @@ mod tests {
         for line in lines {
             assert_eq!(answer(&sine, &mut Card::fresh(), line), b"no 14");
         }
-        assert_eq!(answer(&sine, &mut Card::fresh(), b"R 000000007"), b"0");
+        assert_eq!(answer(&sine, &mut Card::fresh(), b"R 000000007"), b"no 10");
         assert_eq!(answer(&sine, &mut Card::fresh(), b"H 00 -0"), b"no 9");
     }
 }

@@ -2,11 +2,13 @@
 //! another that differs.
 
 use second::compare::{
-    batch_answers, compare_library, compare_vectors, equal_outputs, outcomes_of_a_batch,
-    outcomes_of_sessions, random_batch, random_lines, random_sessions, Way,
+    batch_answers, call_answers, compare_library, compare_vectors, equal_outputs,
+    outcomes_of_a_batch, outcomes_of_calls, outcomes_of_sessions, random_batch, random_lines,
+    random_runs, random_sessions, Way,
 };
 use second::counts::{Counts, Outcome, LEAST};
 use second::question::{BatchQuestion, Choice, LibraryAnswer, Pointing, Question, Shot};
+use second::random_calls::{random_calls, Start};
 use second::session;
 use second::sine::Sine;
 
@@ -82,7 +84,7 @@ fn a_library_that_differs_is_found() {
 fn batch_reaches_every_outcome<Q: BatchQuestion>() {
     let sine = Sine::new();
     let answers = batch_answers::<Q>(&sine, &random_batch::<Q>(&sine, 1, COUNT));
-    let counts = equal_outputs(&answers, &answers).unwrap();
+    let counts = equal_outputs(&answers, &answers, Outcome::of_line).unwrap();
     assert_eq!(counts.all_reached(&outcomes_of_a_batch::<Q>(), LEAST), Ok(()));
     assert_eq!(counts.total(), COUNT);
 }
@@ -110,7 +112,7 @@ fn sessions(sine: &Sine, seed: u64) -> Counts {
         let input = random_lines(sine, seed, lines);
         let mut output = Vec::new();
         session::run(sine, input.as_slice(), &mut output).unwrap();
-        let one = equal_outputs(&output, &output).unwrap();
+        let one = equal_outputs(&output, &output, Outcome::of_line).unwrap();
         assert_eq!(one.total(), lines);
         counts.add_all(&one);
     }
@@ -126,6 +128,37 @@ fn sessions_reach_every_refusal() {
         assert!(counts.of(Outcome::Refused(10)) >= 100, "seed {seed}");
         assert_eq!(counts.total(), COUNT);
     }
+}
+
+/// From either start; from the old one, shots are answered though nothing was heard for DUT1.
+#[test]
+fn calls_reach_every_refusal() {
+    let sine = Sine::new();
+    for start in [Start::Fresh, Start::Old] {
+        let mut counts = Counts::default();
+        for (seed, lines) in random_runs(1, COUNT) {
+            let answers = call_answers(&sine, &random_calls(&sine, start, seed, lines));
+            counts.add_all(&equal_outputs(&answers, &answers, Outcome::of_call).unwrap());
+        }
+        assert_eq!(counts.all_reached(&outcomes_of_calls(), 1), Ok(()), "{start:?}");
+        assert_eq!(counts.total(), COUNT);
+    }
+    let calls = random_calls(&sine, Start::Old, 1, COUNT);
+    let answers = String::from_utf8(call_answers(&sine, &calls)).unwrap();
+    let calls = String::from_utf8(calls).unwrap();
+    let (mut heard, mut answered) = (false, 0);
+    for (call, answer) in calls.lines().zip(answers.lines()) {
+        heard = call != "old" && (heard || call.starts_with("hear 7 "));
+        answered += u64::from(!heard && Outcome::of_call(answer) == Outcome::Answered);
+    }
+    assert!(answered > 0);
+}
+
+#[test]
+fn calls_are_counted_by_their_form() {
+    let output = b"| e\n0 | h5\n0 1 2 3 4 | c5\n0 1 35 | r5\n11 0 - | h5\n1 0 0 0 0 | e\n";
+    let counts = equal_outputs(output, output, Outcome::of_call).unwrap();
+    assert_eq!(counts.to_string(), "answered 1, no 1 1, no 11 1, others 3");
 }
 
 #[test]
@@ -147,15 +180,16 @@ fn an_outcome_reached_too_rarely_is_found() {
 #[test]
 fn lines_are_counted_by_their_form() {
     let output = b"az 1 zd 2\nmark 3\nno 15\nno 1\nok\n5 0\nno 15\n";
-    let counts = equal_outputs(output, output).unwrap();
+    let counts = equal_outputs(output, output, Outcome::of_line).unwrap();
     assert_eq!(counts.to_string(), "answered 2, no 1 1, no 15 2, others 2");
 }
 
 #[test]
 fn outputs_that_differ_are_found() {
-    assert!(equal_outputs(b"ok\nno 1\n", b"ok\nno 1\n").is_ok());
+    let compared = |other: &[u8]| equal_outputs(b"ok\nno 1\n", other, Outcome::of_line);
+    assert!(compared(b"ok\nno 1\n").is_ok());
     for other in ["ok\n", "ok\nno 1", "ok\nno 2\n", "ok\nno 1\nok\n", ""] {
-        assert!(equal_outputs(b"ok\nno 1\n", other.as_bytes()).is_err());
+        assert!(compared(other.as_bytes()).is_err());
     }
 }
 
@@ -166,4 +200,7 @@ fn equal_seeds_give_equal_input() {
     assert_eq!(pointings(7), pointings(7));
     assert_ne!(pointings(7), pointings(8));
     assert_eq!(random_lines(&sine, 7, 500), random_lines(&sine, 7, 500));
+    let calls = |seed| random_calls(&sine, Start::Old, seed, 500);
+    assert_eq!(calls(7), calls(7));
+    assert_ne!(calls(7), calls(8));
 }

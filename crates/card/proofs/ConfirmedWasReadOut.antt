@@ -1,26 +1,21 @@
 -- A confirmed number was read out. After any calls from any card, in any order and of any number: where field f stands confirmed with n, n was heard
 -- for f, after that its text was written out by an accepted reading, and after that it was confirmed, with nothing heard for f since that hearing.
--- What of the three did not come among the calls stood on the card already: on a fresh card, the 0 of DUT1 alone.
+-- What of the three did not come among the calls stood on the card already; on a fresh card nothing did, so there every confirmed number was heard, read
+-- out and confirmed, with no exception.
 use mathlib.Core.Path.{_≡_, refl, sym, ap, subst, _∙_}
-use mathlib.Core.Bool.{Bool, true, false}
-use mathlib.Core.Logic.{_⊎_, inl, inr, ⊎-elim}
+use mathlib.Core.Logic.{⊎-elim}
 use mathlib.Core.List.{List, [], _∷_, List·Memᴰ·not-nil, List·Memᴰ·head, List·Memᴰ·cases-cons}
-use Prim.Native.Nat.{suc}
-use lib.Dec.{eqb}
-use lib.IntN.{ℤ, pos}
-use lib.ListN.{replicate, getD-replicate}
-use lib.Seq.{getD-set-other}
-use borrow.Author.Tests.{eqb-true, eqb-false}
+use lib.IntN.{ℤ}
 use Rattle.digits.specs.Text.{text}
 use Rattle.digits.specs.Writing.{over}
-use Rattle.card.specs.Fields.{fieldCount, isField, DUT1, slotIndex, slot, fieldAt, fieldOf, Full, freshCard}
+use Rattle.card.specs.Fields.{fieldOf, Full, freshCard}
 use Rattle.card.specs.Calls.{bufferAfter}
-use Rattle.card.specs.History.{Call, hear, after, refusal, afterAll, NothingHeard, AcceptedAmong, ConfirmedAmong, ReadOutAmong, HeardAmong, Story, stoodConfirmed, stoodRead, stoodHeard, wasHeard, StartingZero}
+use Rattle.card.specs.History.{Call, hear, after, refusal, afterAll, NothingHeard, AcceptedAmong, ConfirmedAmong, ReadOutAmong, HeardAmong, Story, stoodConfirmed, stoodRead, stoodHeard, wasHeard}
 use Rattle.card.specs.declared.Field.{Field}
 use Rattle.card.specs.declared.Field.the-variants.{Empty, Heard, Read, Confirmed}
 use Rattle.card.specs.declared.Card.{Card}
 use Rattle.card.proofs.OneCall.{Effect, heard, readOut, confirmed, kept, effect, after-length}
-use Rattle.card.proofs.FieldNumbers.{field-number, index-below, field-found, no-field}
+use Rattle.card.proofs.Starts.{fresh-is-empty}
 use Rattle.card.proofs.Clash.{clash}
 
 no-calls : (f : ℤ) → NothingHeard f []
@@ -94,34 +89,17 @@ confirmed-was-read-out c [] f n l e = stoodConfirmed e (no-calls f)
 confirmed-was-read-out c (x ∷ calls) f n l e =
     tell c f n x refl (effect c f x l) (confirmed-was-read-out (after c x) calls f n (after-length c x ∙ l) e)
 
--- ---- from a fresh card, on which only DUT1 holds a number
-pub data OnFresh (f : ℤ) (v : Field) : Type 0 where
-  empty : v ≡ Empty → OnFresh f v
-  zero-dut1 : f ≡ DUT1 → v ≡ Confirmed (pos 0) → OnFresh f v
+-- ---- of a field that was empty at the start
+module _ (c : Card) (calls : List Call) (f n : ℤ) where
+  from-empty : fieldOf c f ≡ Empty → Story c f n calls → HeardAmong c f n calls
+  from-empty e (stoodConfirmed k q) = clash (cc)
+  from-empty e (stoodRead k q) = clash (cc)
+  from-empty e (stoodHeard k q) = clash (cc)
+  from-empty e (wasHeard r) = r
 
-fresh-at : (f : ℤ) (b : Bool) → isField f ≡ true → eqb (slotIndex f) (slotIndex DUT1) ≡ b → OnFresh f (fieldAt freshCard (slotIndex f))
-fresh-at f true p t =
-    let e = eqb-true (slotIndex f) (slotIndex DUT1) t in zero-dut1 (field-number f p ∙ ap (λ j. pos (suc j)) e) (ap (fieldAt freshCard) e)
-fresh-at f false p t =
-    let empties = replicate fieldCount (slot Empty) in
-    let o = getD-set-other empties (slotIndex DUT1) (slotIndex f) (slot (Confirmed (pos 0))) (slot Empty) (eqb-false (slotIndex f) (slotIndex DUT1) t) in
-    empty (ap (λ s. s .field) (o ∙ getD-replicate fieldCount (slotIndex f) (slot Empty) (slot Empty) (index-below f p)))
+  pub empty-was-read-out : Full c → fieldOf c f ≡ Empty → fieldOf (afterAll c calls) f ≡ Confirmed n → HeardAmong c f n calls
+  empty-was-read-out l e k = from-empty e (confirmed-was-read-out c calls f n l k)
 
-pub on-fresh : (f : ℤ) (b : Bool) → isField f ≡ b → OnFresh f (fieldOf freshCard f)
-on-fresh f false e = empty (sym (no-field f e freshCard))
-on-fresh f true e = subst (OnFresh f) (field-found f e freshCard) (fresh-at f (eqb (slotIndex f) (slotIndex DUT1)) e refl)
-
-from-fresh : (calls : List Call) (f n : ℤ) → OnFresh f (fieldOf freshCard f) → Story freshCard f n calls
-    → StartingZero calls f n ⊎ HeardAmong freshCard f n calls
-from-fresh calls f n o (wasHeard r) = inr r
-from-fresh calls f n (empty e) (stoodConfirmed k q) = clash (cc)
-from-fresh calls f n (empty e) (stoodRead k q) = clash (cc)
-from-fresh calls f n (empty e) (stoodHeard k q) = clash (cc)
-from-fresh calls f n (zero-dut1 d e) (stoodConfirmed k q) = inl (record { field = d; number = cc; nothingHeard = q })
-from-fresh calls f n (zero-dut1 d e) (stoodRead k q) = clash (cc)
-from-fresh calls f n (zero-dut1 d e) (stoodHeard k q) = clash (cc)
-
-pub fresh-was-read-out : (calls : List Call) (f n : ℤ) → fieldOf (afterAll freshCard calls) f ≡ Confirmed n
-    → StartingZero calls f n ⊎ HeardAmong freshCard f n calls
-fresh-was-read-out calls f n e =
-    from-fresh calls f n (on-fresh f (isField f) refl) (confirmed-was-read-out freshCard calls f n refl e)
+-- ---- from a fresh card, on which every field is empty
+pub fresh-was-read-out : (calls : List Call) (f n : ℤ) → fieldOf (afterAll freshCard calls) f ≡ Confirmed n → HeardAmong freshCard f n calls
+fresh-was-read-out calls f n = empty-was-read-out freshCard calls f n refl (fresh-is-empty f)

@@ -1,20 +1,20 @@
--- Held numbers are small. Whatever calls follow one another from a fresh card, a number that a field holds is at most 9,999,999 in magnitude; and so
--- from any card on which that holds.
-use mathlib.Core.Path.{_≡_, refl, _∙_}
+-- Held numbers are small. Whatever calls follow one another from either start, a number that a field holds is at most 9,999,999 in magnitude; and so from
+-- any card on which that holds.
+use mathlib.Core.Path.{_≡_, refl, ap, _∙_}
 use mathlib.Core.Bool.{true}
 use mathlib.Core.List.{List, [], _∷_}
 use native.Mathlib.Omega.{arith}
 use lib.Dec.{leb→le}
-use lib.IntN.{ℤ, pos, negsuc, negℤ}
+use lib.IntN.{ℤ, pos, negsuc, negℤ, ℤ-discrete}
 use Rattle.exact.proofs.Machine.{between-low, between-high}
-use Rattle.card.specs.Fields.{isField, Full, freshCard}
+use Rattle.card.specs.Fields.{fieldOf, Full, freshCard, DUT1, freshWithDut1AssumedZero}
 use Rattle.card.specs.Calls.{largestHeard, canBeHeard}
 use Rattle.card.specs.History.{Call, after, afterAll, Small, HeldSmall}
 use Rattle.card.specs.declared.Field.{Field}
 use Rattle.card.specs.declared.Field.the-variants.{Heard}
 use Rattle.card.specs.declared.Card.{Card}
 use Rattle.card.proofs.OneCall.{Effect, heard, readOut, confirmed, kept, effect, after-length}
-use Rattle.card.proofs.ConfirmedWasReadOut.{OnFresh, empty, zero-dut1, on-fresh}
+use Rattle.card.proofs.Starts.{fresh-is-empty, assumed-dut1, others-are-empty}
 
 -- what can be heard is small
 small : (z : ℤ) → canBeHeard z ≡ true → Small (Heard z)
@@ -38,13 +38,17 @@ held-numbers-are-small c [] l s = s
 held-numbers-are-small c (x ∷ calls) l s =
     held-numbers-are-small (after c x) calls (after-length c x ∙ l) (one-call-keeps-small c x l s)
 
--- ---- from a fresh card
-small-on-fresh : (f : ℤ) {v : Field} → OnFresh f v → Small v
-small-on-fresh f (empty e) = rw e (omega arith)
-small-on-fresh f (zero-dut1 d e) = rw e (omega arith)
-
+-- ---- from either start
 pub fresh-is-small : HeldSmall freshCard
-fresh-is-small f = small-on-fresh f (on-fresh f (isField f) refl)
+fresh-is-small f = rw (fresh-is-empty f) (omega arith)
 
 pub fresh-held-numbers-are-small : (calls : List Call) → HeldSmall (afterAll freshCard calls)
 fresh-held-numbers-are-small calls = held-numbers-are-small freshCard calls refl fresh-is-small
+
+small-by-field : (f : ℤ) → Dec (f ≡ DUT1) → Small (fieldOf freshWithDut1AssumedZero f)
+small-by-field f (yes d) = rw (ap (fieldOf freshWithDut1AssumedZero) d ∙ assumed-dut1) (omega arith)
+small-by-field f (no d) = rw (others-are-empty f d) (omega arith)
+
+pub assumed-held-numbers-are-small : (calls : List Call) → HeldSmall (afterAll freshWithDut1AssumedZero calls)
+assumed-held-numbers-are-small calls =
+    held-numbers-are-small freshWithDut1AssumedZero calls refl (λ f. small-by-field f (ℤ-discrete f DUT1))

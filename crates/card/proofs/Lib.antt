@@ -1,5 +1,6 @@
 -- The theorems over histories of calls, and then what the proofs of several functions use.
 pub mod ConfirmedWasReadOut
+pub mod AssumedZeroIsTheException
 pub mod UnreadNeverConfirmed
 pub mod ShotNumbersWereReadOut
 pub mod HeldNumbersAreSmall
@@ -9,4 +10,5 @@ pub mod Clash
 pub mod FieldNumbers
 pub mod Histories
 pub mod OneCall
+pub mod Starts
 pub mod States

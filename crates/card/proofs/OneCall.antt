@@ -28,7 +28,7 @@ put-same c f v l e =
     let h = index-below f e in
     sym (field-found f e (put c (slotIndex f) v)) ∙ ap (λ s. s .field) (getD-set-same (c .slots) (slotIndex f) (slot v) (slot Empty) (omega arith))
 
-put-other : (c : Card) (f g : ℤ) (v : Field) (b : Bool) → isField f ≡ b → isField g ≡ true → f ≢ g → fieldOf (put c (slotIndex g) v) f ≡ fieldOf c f
+pub put-other : (c : Card) (f g : ℤ) (v : Field) (b : Bool) → isField f ≡ b → isField g ≡ true → f ≢ g → fieldOf (put c (slotIndex g) v) f ≡ fieldOf c f
 put-other c f g v false e k n = sym (no-field f e (put c (slotIndex g) v)) ∙ no-field f e c
 put-other c f g v true e k n =
     let apart = getD-set-other (c .slots) (slotIndex g) (slotIndex f) (slot v) (slot Empty)

@@ -1,9 +1,7 @@
 -- Every number of a shot was read out. After any calls from any card: where a shot from the card goes on, the number that the shot takes for a field
--- has its story, as proofs/ConfirmedWasReadOut.antt tells it. On a fresh card: it was heard for that field, read out and confirmed, DUT1's starting 0
--- aside.
+-- has its story, as proofs/ConfirmedWasReadOut.antt tells it. From a fresh card: it was heard for that field, read out and confirmed.
 use mathlib.Core.Path.{_≡_, sym, ap, _∙_}
 use mathlib.Core.Bool.{true}
-use mathlib.Core.Logic.{_⊎_}
 use mathlib.Core.List.{List, [], _∷_}
 use Prim.Native.Nat.{ℕ, zero, suc, _+_, _<_}
 use native.Mathlib.Omega.{arith}
@@ -12,7 +10,7 @@ use lib.ListN.{length, getD, List·getD-map}
 use Rattle.exact.proofs.Machine.{and-true}
 use Rattle.card.specs.Fields.{isConfirmed, numberIn, fieldCount, isField, slotIndex, fieldAt, fieldOf, Full, freshCard}
 use Rattle.card.specs.Confirmed.{fieldsFrom, fieldsOf, numbersIn, numberFor, everyConfirmed, allConfirmed}
-use Rattle.card.specs.History.{Call, afterAll, HeardAmong, Story, StartingZero}
+use Rattle.card.specs.History.{Call, afterAll, HeardAmong, Story}
 use Rattle.card.specs.declared.Field.{Field}
 use Rattle.card.specs.declared.Field.the-variants.{Empty, Confirmed}
 use Rattle.card.specs.declared.Card.{Card}
@@ -56,8 +54,7 @@ shot-numbers-were-read-out c calls l all f e =
 
 -- ---- from a fresh card
 pub fresh-shot-numbers-were-read-out : (calls : List Call) → allConfirmed (afterAll freshCard calls) ≡ true
-    → (f : ℤ) → isField f ≡ true
-    → StartingZero calls f (numberFor (numbersIn (afterAll freshCard calls)) f) ⊎ HeardAmong freshCard f (numberFor (numbersIn (afterAll freshCard calls)) f) calls
+    → (f : ℤ) → isField f ≡ true → HeardAmong freshCard f (numberFor (numbersIn (afterAll freshCard calls)) f) calls
 fresh-shot-numbers-were-read-out calls all f e =
     let d = afterAll freshCard calls in
     fresh-was-read-out calls f (numberFor (numbersIn d) f) (stands-confirmed d f e all)

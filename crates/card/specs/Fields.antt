@@ -1,4 +1,5 @@
--- Document 01, "The card"; document 02, request 3 (field 11) (RULES.md, "Fields" and "The card"): the card, its fields and their states.
+-- Document 01, "The card"; document 02, requests 3 (field 11) and 4 (the start) (RULES.md, "Fields" and "The card"): the card, its fields, their states
+-- and what stands on it at the start.
 use mathlib.Core.Path.{_≡_}
 use mathlib.Core.Bool.{Bool, true, false, cond}
 use Prim.Native.Nat.{ℕ, _-_}
@@ -45,10 +46,6 @@ fieldCount = 11
 abbrev pub isField : ℤ → Bool
 isField f = between (pos 1) f (pos fieldCount)
 
--- the number of the field that starts confirmed
-abbrev pub DUT1 : ℤ
-DUT1 = pos 7
-
 -- the index of field number f on the card: one less than its number
 abbrev pub slotIndex : ℤ → ℕ
 slotIndex f = natAbs f - 1
@@ -72,6 +69,14 @@ put c i f = record { slots = set (c .slots) i (slot f) }
 abbrev pub Full : Card → Type 0
 Full c = length (c .slots) ≡ fieldCount
 
--- DUT1 stands confirmed as 0 ms, and every other field is empty
+-- ---- the start
+-- every field is empty
 abbrev pub freshCard : Card
-freshCard = put (record { slots = replicate fieldCount (slot Empty) }) (slotIndex DUT1) (Confirmed (pos 0))
+freshCard = record { slots = replicate fieldCount (slot Empty) }
+
+-- the start before request 4: DUT1, field 7, stands confirmed as 0 ms, and every other field is empty
+abbrev pub DUT1 : ℤ
+DUT1 = pos 7
+
+abbrev pub freshWithDut1AssumedZero : Card
+freshWithDut1AssumedZero = put freshCard (slotIndex DUT1) (Confirmed (pos 0))

@@ -75,8 +75,8 @@ pub data Story (c : Card) (f n : ℤ) (calls : List Call) : Type 0 where
   stoodHeard : fieldOf c f ≡ Heard n → ReadOutAmong c f n calls → Story c f n calls
   wasHeard : HeardAmong c f n calls → Story c f n calls
 
--- the one number that stands confirmed on a fresh card: DUT1's 0, for which nothing was heard yet
-pub record StartingZero (calls : List Call) (f n : ℤ) : Type 0 where
+-- the one number that nobody said: DUT1's 0 of the start before request 4, while nothing was heard for DUT1
+pub record AssumedZero (calls : List Call) (f n : ℤ) : Type 0 where
   pub field : f ≡ DUT1
   pub number : n ≡ pos 0
   pub nothingHeard : NothingHeard f calls

@@ -1,5 +1,5 @@
-// The card of spoken fields. Document 01, "The card"; document 02, request 3 (field 11). A number counts only after it was heard, read out
-// and confirmed. The calls take a card by value and answer the card afterwards; a refused call answers the card as it was.
+// The card of spoken fields. Document 01, "The card"; document 02, requests 3 (field 11) and 4 (the start). A number counts only after it was
+// heard, read out and confirmed. The calls take a card by value and answer the card afterwards; a refused call answers the card as it was.
 use digits::Written;
 use refusal::Refusal;
 use refusal::Verdict;
@@ -8,7 +8,7 @@ ghost use mathlib.Core.Bool.{true};
 ghost use Prim.Native.Nat.{_<_, _^_};
 ghost use lib.IntN.{natAbs};
 ghost use Rattle.refusal.specs.RefusalNumbers.{verdictNumber};
-ghost use Rattle.card.specs.Fields.{isHeld, numberIn, fieldCount, isField, slotIndex, fieldAt, fieldOf, put, freshCard};
+ghost use Rattle.card.specs.Fields.{isHeld, numberIn, fieldCount, isField, slotIndex, fieldAt, fieldOf, put, freshCard, freshWithDut1AssumedZero};
 ghost use Rattle.card.specs.Calls.{cardValues, readingValues, readValues, hear, confirm, readState, read, bufferAfter};
 ghost use Rattle.card.specs.Confirmed.{confirmedValues, confirmedNumbers};
 
@@ -33,7 +33,8 @@ pub struct Slot {
     field: Field,
 }
 
-// A card is made by `fresh` and changed by the calls alone: its fields are not public, so that no caller writes a confirmed number into it.
+// A card is made by one of the two starts and changed by the calls alone: its fields are not public, so that no caller writes a confirmed
+// number into it.
 pub struct Card {
     slots: [Slot; FIELDS],
 }
@@ -130,18 +131,23 @@ fn put(card: Card, i: usize, field: Field) -> Card
     next
 }
 
-// A fresh card: DUT1 stands confirmed as 0 ms, and every other field is empty.
+// A fresh card: every field is empty.
 pub fn fresh() -> Card
     ensures { λ r. ⌜ r ≡ freshCard ⌝ }
 {
     let empty = Slot {
         field: Field::Empty,
     };
-    let mut slots = [empty; FIELDS];
-    slots[DUT1] = Slot {
-        field: Field::Confirmed(0),
-    };
+    let slots = [empty; FIELDS];
     Card { slots: slots }
+}
+
+// The start before request 4, for programs elsewhere that rely on it: DUT1 stands confirmed as 0 ms, though nobody has said so, and every
+// other field is empty. Nothing of the book starts from it (compare/assumed-dut1).
+pub fn fresh_with_dut1_assumed_zero() -> Card
+    ensures { λ r. ⌜ r ≡ freshWithDut1AssumedZero ⌝ }
+{
+    put(fresh(), DUT1, Field::Confirmed(0))
 }
 
 // The answers, put together.

@@ -11,9 +11,12 @@ ghost use Rattle.sine.specs.Sine.{entries};
 const LONGEST: usize = 64;
 
 pub fn fresh() -> Card {
-    let card = card::fresh();
-    output::card(card);
-    card
+    shown(card::fresh())
+}
+
+// The start before request 4.
+pub fn old() -> Card {
+    shown(card::fresh_with_dut1_assumed_zero())
 }
 
 pub fn hear(card: Card, field: i64, number: i64) -> Card {
@@ -88,6 +91,10 @@ fn answered(answer: CardAnswer) -> Card {
 
 fn ended(card: Card) -> Card {
     output::space();
+    shown(card)
+}
+
+fn shown(card: Card) -> Card {
     output::card(card);
     card
 }

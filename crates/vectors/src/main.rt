@@ -16,7 +16,7 @@ ghost use mathlib.Core.Path.{_≡_};
 ghost use Rattle.sine.specs.Sine.{entries};
 
 // The bytes of the buffer that the whole of standard input is read into.
-const ROOM: usize = 65_536;
+const ROOM: usize = 262_144;
 
 // The most digits of a number.
 const DIGITS: usize = 18;
@@ -25,7 +25,7 @@ const DIGITS: usize = 18;
 // lost unseen.
 fn main() {
     let t = sine::table();
-    let mut input = io::large_buffer();
+    let mut input = [0u8; ROOM];
     let n = io::read_full(STDIN_FILENO, &mut input);
     answer_all(&t, &input[..n]);
     if n == ROOM {
@@ -56,6 +56,7 @@ fn answer(t: &SineTable, card: Card, line: &[u8]) -> Card
     let word = words::word_of(line, row.count);
     match word {
         Word::Fresh => calls::fresh(),
+        Word::Old => calls::old(),
         Word::Hear => calls::hear(card, numbers[0], numbers[1]),
         Word::Read => calls::read(card, words::rest(line)),
         Word::Confirm => calls::confirm(card, numbers[0]),

@@ -6,6 +6,7 @@ ghost use lib.ListN.{length};
 // first on.
 pub enum Word {
     Fresh,
+    Old,
     Hear,
     Read,
     Confirm,
@@ -28,6 +29,9 @@ pub enum Word {
 pub fn word_of(line: &[u8], count: usize) -> Word {
     if check::same(line, b"fresh") {
         return Word::Fresh;
+    }
+    if check::same(line, b"old") {
+        return Word::Old;
     }
     if check::same(line, b"shot") {
         return Word::CardShot;

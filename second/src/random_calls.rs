@@ -1,0 +1,99 @@
+//! Seeded random histories of calls on a card, as the lines of card.txt have them.
+
+use crate::digits::LONGEST;
+use crate::random::Random;
+use crate::random_lines::Lines;
+use crate::replay::to_hex;
+use crate::session::{command, Command};
+use crate::sine::Sine;
+use std::str::FromStr;
+
+/// The most calls of a history.
+const CALLS: i64 = 1_000;
+/// Room for any text, in bytes.
+const ROOM: i64 = LONGEST as i64;
+/// The field of DUT1.
+const DUT1: i64 = 7;
+
+/// What a card is started by, as card.txt has it.
+#[derive(Clone, Copy, Debug, PartialEq, Eq)]
+pub enum Start {
+    Fresh,
+    Old,
+}
+
+impl Start {
+    /// The word of its line.
+    pub fn word(self) -> &'static str {
+        match self {
+            Start::Fresh => "fresh",
+            Start::Old => "old",
+        }
+    }
+}
+
+impl FromStr for Start {
+    type Err = String;
+
+    fn from_str(word: &str) -> Result<Self, String> {
+        let starts = [Start::Fresh, Start::Old];
+        let found = starts.into_iter().find(|start| start.word() == word);
+        found.ok_or_else(|| format!("{word}: neither fresh nor old"))
+    }
+}
+
+/// The lines of one history after the other, `count` in all. Each begins with the start; its
+/// calls are those of a random session. From the old start on, a quarter of the histories hear
+/// nothing for DUT1, so that their shots take the number that stands there.
+pub fn random_calls(sine: &Sine, start: Start, seed: u64, count: u64) -> Vec<u8> {
+    let mut random = Random::new(seed);
+    let mut lines: Vec<String> = Vec::new();
+    while (lines.len() as u64) < count {
+        let left = count - lines.len() as u64 - 1;
+        let calls = left.min(random.between(0, CALLS) as u64);
+        let dut1_kept = start == Start::Old && random.once_in(4);
+        lines.push(start.word().to_string());
+        lines.extend(history(&mut random, sine, dut1_kept, calls));
+    }
+    lines.iter().flat_map(|line| format!("{line}\n").into_bytes()).collect()
+}
+
+/// The calls of a history, without hearings for DUT1 where what stands there is kept.
+fn history(random: &mut Random, sine: &Sine, dut1_kept: bool, calls: u64) -> Vec<String> {
+    let mut session = Lines::new(random.bits(), sine);
+    let mut lines = Vec::new();
+    while (lines.len() as u64) < calls {
+        match command(&session.next_line()) {
+            Ok(Command::Hear(DUT1, _)) if dut1_kept => {}
+            Ok(command) => lines.push(call(random, command)),
+            Err(_) => {}
+        }
+    }
+    lines
+}
+
+/// A command of a session as a call; a reading gets a buffer and a place.
+fn call(random: &mut Random, command: Command) -> String {
+    match command {
+        Command::Hear(field, number) => format!("hear {field} {number}"),
+        Command::Confirm(field) => format!("confirm {field}"),
+        Command::Shot => "shot".to_string(),
+        Command::Read(field) => {
+            let (length, place) = buffer_and_place(random);
+            let bytes: Vec<u8> = (0..length).map(|_| random.bits() as u8).collect();
+            format!("read {field} {place} {}", to_hex(&bytes))
+        }
+    }
+}
+
+/// The length of a buffer and a place: mostly with room for any text, since a shot wants eleven
+/// readings, else with any or none, or far beyond the end.
+fn buffer_and_place(random: &mut Random) -> (i64, i64) {
+    if !random.once_in(30) {
+        let length = random.between(ROOM, 32);
+        return (length, random.between(0, length - ROOM));
+    }
+    let length = random.between(0, 32);
+    let beyond = random.choose(&[length, length + 1, 999_999_999_999_999_999]);
+    (length, if random.once_in(4) { beyond } else { random.between(0, length) })
+}
