@@ -15,7 +15,7 @@ use crate::sine::Sine;
 use crate::sun::{polynomial_longitude, sun};
 
 /// Demand 3's bound of s against the polynomial longitude, in units.
-pub const LONGITUDE_BOUND: i64 = 60;
+pub const LONGITUDE_BOUND: i64 = 4;
 
 /// A refusal as a line.
 pub fn refused(refusal: Refusal) -> String {

@@ -1,14 +1,15 @@
-//! The table sine. Document 01, "The sine".
+//! The table sine. Document 01, "The sine"; document 02, request 5.
 
 use crate::exact::{reduce, QUADRANT, TURN};
 use crate::polynomial::Polynomial;
 
-/// The table's step, 5 minutes of arc, in units.
-pub const STEP: u64 = 3_000_000;
+/// The table's step, a minute of arc, in units; with the feature `five_minutes` that of document
+/// 01, for the vectors that are older than request 5.
+pub const STEP: u64 = if cfg!(feature = "five_minutes") { 3_000_000 } else { 600_000 };
 /// The number of steps from 0 to 90 degrees.
-pub const STEPS: usize = 1_080;
+pub const STEPS: usize = (QUADRANT as u64 / STEP) as usize;
 
-/// The table of 1,081 entries: R times the sine of each 5 minutes from 0 to 90 degrees.
+/// The table of 5,401 entries: R times the sine of each minute from 0 to 90 degrees.
 pub struct Sine {
     entries: [u32; STEPS + 1],
 }
@@ -20,7 +21,7 @@ impl Default for Sine {
 }
 
 impl Sine {
-    /// The table worked from the polynomial: entry n is the nearest to R * P(3,000,000 n).
+    /// The table worked from the polynomial: entry n is the nearest to R * P(n steps).
     pub fn new() -> Self {
         let polynomial = Polynomial::new();
         let entry = |n: usize| polynomial.nearest_scaled(STEP as i64 * n as i64) as u32;

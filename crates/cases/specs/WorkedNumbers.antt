@@ -4,7 +4,7 @@ use mathlib.Core.List.{List, [], _∷_}
 use Prim.Native.Nat.{ℕ}
 use lib.IntN.{ℤ, pos}
 use Rattle.sine.specs.Sine.{Sin}
-use Rattle.sine.specs.VectorAngle.{angle}
+use Rattle.vector_angle.specs.VectorAngle.{angle}
 use Rattle.calendar.specs.Date.{dayCount}
 use Rattle.calendar.specs.Time.{instantOf}
 use Rattle.calendar.specs.declared.CivilTime.{CivilTime}

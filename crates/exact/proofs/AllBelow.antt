@@ -1,5 +1,6 @@
 -- A rule of every number below n, from one test that antt computes over all of them; and order from one number to the next.
 use mathlib.Core.Bool.{Bool, true, false, _&&_}
+use mathlib.Core.List.{List, [], _∷_}
 use mathlib.Core.Logic.{⊎-elim}
 use Prim.Native.Nat.{ℕ, zero, suc, _+_, _-_, _≤_, _<_}
 use native.Mathlib.Nat.{not-suc-le-zero, eq-or-lt-of-le, le-of-suc-le-suc, le-refl, le-trans, add-zero, add-suc, add-sub-of-le}
@@ -30,6 +31,19 @@ everyLe f g n = allBelow (λ k. leb (f k) (g k)) n
 
 pub every-le : (f g : ℕ → ℕ) (n : ℕ) → T (everyLe f g n) → (k : ℕ) → k < n → f k ≤ g k
 every-le f g n t k h = leb→le (f k) (g k) (below-all (λ k. leb (f k) (g k)) n k t h)
+
+-- ---- several pairs, tested together: the first of each is at most the second
+abbrev pub allLe : List (ℕ × ℕ) → Bool
+allLe [] = true
+allLe (p ∷ ps) = leb (p .0) (p .1) && allLe ps
+
+abbrev pub AllLe : List (ℕ × ℕ) → Type 0
+AllLe [] = Unit
+AllLe (p ∷ ps) = (p .0 ≤ p .1) × AllLe ps
+
+pub all-le : (ps : List (ℕ × ℕ)) → T (allLe ps) → AllLe ps
+all-le [] t = tt
+all-le (p ∷ ps) t = (leb→le (p .0) (p .1) (and-l (leb (p .0) (p .1)) (allLe ps) t), all-le ps (and-r (leb (p .0) (p .1)) (allLe ps) t))
 
 -- ---- what does not fall from a number to the next does not fall
 module _ (f : ℕ → ℕ) (m : ℕ) (next : (n : ℕ) → n < m → f n ≤ f (suc n)) where

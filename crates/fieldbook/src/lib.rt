@@ -8,7 +8,7 @@ use frame::Frame;
 use horizon::Sighting;
 use refusal::Refusal;
 use refusal::Verdict;
-use sine::SineTable;
+use sine_table::SineTable;
 use site::Located;
 use site::Position;
 use site::Site;
@@ -16,7 +16,7 @@ ghost use mathlib.Core.Path.{_≡_};
 ghost use Prim.Native.Nat.{_<_, _≤_};
 ghost use lib.ListN.{length};
 ghost use Rattle.exact.specs.Reduction.{turn};
-ghost use Rattle.sine.specs.Sine.{entries};
+ghost use Rattle.sine_table.specs.Table.{entries};
 ghost use Rattle.epoch.specs.Sizes.{InSpan};
 ghost use Rattle.site.specs.Sizes.{PositionSized};
 ghost use Rattle.horizon.specs.Horizon.{View, sightOf, sightValues};
@@ -186,7 +186,7 @@ pub fn shot_with(t: &SineTable, numbers: Numbers) -> Outcome
 pub fn shot(numbers: Numbers) -> Outcome
     ensures { λ r. ⌜ (shotValues r ≡ shot numbers) × ShotReduced (shotValues r) ⌝ }
 {
-    let t = sine::table();
+    let t = sine_table::table();
     shot_with(&t, numbers)
 }
 
@@ -220,6 +220,6 @@ pub fn shot_from_card_with(t: &SineTable, card: Card) -> CardShot
 pub fn shot_from_card(card: Card) -> CardShot
     ensures { λ r. ⌜ (shotValues (r .outcome) ≡ shotFromCard card) × (r .card ≡ card) × ShotReduced (shotValues (r .outcome)) ⌝ }
 {
-    let t = sine::table();
+    let t = sine_table::table();
     shot_from_card_with(&t, card)
 }

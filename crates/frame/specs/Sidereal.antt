@@ -8,7 +8,8 @@ use Rattle.exact.specs.Decimal.{plus, timeSeconds}
 use Rattle.exact.specs.Division.{floorDiv, nearestDiv}
 use Rattle.exact.specs.Nth.{nth}
 use Rattle.secular.specs.FlooredPolynomial.{polynomial, value}
-use Rattle.sine.specs.Sine.{R, Cos}
+use Rattle.sine_table.specs.Table.{R}
+use Rattle.sine.specs.Sine.{Cos}
 use Rattle.epoch.specs.declared.Epoch.{Epoch}
 
 -- what it has beyond the time since midnight: 6h 38m 45.836s + 8640184.542s T + 0.0929s T²

@@ -7,7 +7,7 @@ use lib.ListN.{length}
 use Rattle.exact.specs.Division.{nearestDiv}
 use Rattle.exact.specs.Nth.{nth}
 use Rattle.exact.proofs.Differences.{split, zs}
-use Rattle.sine.specs.Sine.{R}
+use Rattle.sine_table.specs.Table.{R}
 use Rattle.rotation.specs.Rotation.{rotated, sinOf, cosOf, rotation2}
 use Rattle.rotation.proofs.Components.{rotated-2, sin-neg, cos-neg, three}
 use Rattle.horizon.specs.Horizon.{up, north, toHorizon}

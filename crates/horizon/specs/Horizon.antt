@@ -11,8 +11,8 @@ use Rattle.refusal.specs.Tests.{Test, test, decided}
 use Rattle.exact.specs.Division.{nearestDiv}
 use Rattle.exact.specs.Largest.{root}
 use Rattle.exact.specs.Nth.{nth}
-use Rattle.sine.specs.Sine.{R}
-use Rattle.sine.specs.VectorAngle.{angle}
+use Rattle.sine_table.specs.Table.{R}
+use Rattle.vector_angle.specs.VectorAngle.{angle}
 use Rattle.rotation.specs.Rotation.{rotated, sinOf, cosOf, rotation3}
 use Rattle.site.specs.declared.Position.{Position}
 use Rattle.horizon.specs.declared.Sighting.{Sighting}

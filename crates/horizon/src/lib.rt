@@ -2,13 +2,13 @@
 // positive.
 use refusal::Refusal;
 use rotation::Direction;
-use sine::SineTable;
+use sine_table::SineTable;
 use site::Position;
 ghost use mathlib.Core.Path.{_≡_};
 ghost use Prim.Native.Nat.{_+_, _*_, _≤_, _<_, _^_};
 ghost use lib.IntN.{natAbs, pos};
 ghost use Rattle.exact.specs.Reduction.{turn};
-ghost use Rattle.sine.specs.Sine.{entries};
+ghost use Rattle.sine_table.specs.Table.{entries};
 ghost use Rattle.rotation.specs.Length.{squaredLength, growth};
 ghost use Rattle.rotation.specs.Sizes.{reach, componentMost};
 ghost use Rattle.site.specs.Sizes.{PositionSized};
@@ -72,9 +72,9 @@ fn sight_of(t: &SineTable, x: i64, up: i64, east: i64, north: i64) -> Sighting
     }
     let h = exact::root(square) as i64;
     Sighting::Seen(SightAngles {
-        azimuth: sine::angle(t, north, east),
-        zenith_distance: sine::angle(t, up, h),
-        hour_angle: sine::angle(t, x, -east),
+        azimuth: vector_angle::angle(t, north, east),
+        zenith_distance: vector_angle::angle(t, up, h),
+        hour_angle: vector_angle::angle(t, x, -east),
     })
 }
 

@@ -1,11 +1,11 @@
 // Runs of sines and of angles of a vector with the table lent, for bench/: how many instructions one takes is the difference of two
 // runs. What a run answers depends on all that is found in it, so that the compiler can leave out nothing.
-use sine::SineTable;
+use sine_table::SineTable;
 ghost use mathlib.Core.Path.{_≡_};
 ghost use Prim.Native.Nat.{_≤_, _<_};
 ghost use lib.IntN.{natAbs};
 ghost use Rattle.exact.specs.Reduction.{turn};
-ghost use Rattle.sine.specs.Sine.{R, entries};
+ghost use Rattle.sine_table.specs.Table.{R, entries};
 
 const TURN: u64 = 4 * sine::QUADRANT;
 
@@ -28,7 +28,7 @@ fn found(t: &SineTable, kind: u64, a: u64) -> u64
     match kind {
         1 => size(sine::sin(t, a)),
         2 => size(sine::sin(t, a)) + size(sine::cos(t, a)),
-        3 => sine::angle(t, sine::cos(t, a), sine::sin(t, a)),
+        3 => vector_angle::angle(t, sine::cos(t, a), sine::sin(t, a)),
         _ => a,
     }
 }
@@ -36,7 +36,7 @@ fn found(t: &SineTable, kind: u64, a: u64) -> u64
 // A run: how many angles, and its kind. It answers the angle that comes after the last.
 #[no_mangle]
 pub extern "C" fn measured(kind: u64, count: u64) -> u64 {
-    let t = sine::table();
+    let t = sine_table::table();
     let mut a: u64 = 0;
     for i in 0..count {
         a = (a + STRIDE + found(&t, kind, a)) % TURN;

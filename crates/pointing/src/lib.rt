@@ -3,9 +3,9 @@ use card::Card;
 use fieldbook::Numbers;
 use fieldbook::Outcome;
 use refusal::Refusal;
-use sine::SineTable;
+use sine_table::SineTable;
 ghost use mathlib.Core.Path.{_≡_};
-ghost use Rattle.sine.specs.Sine.{entries};
+ghost use Rattle.sine_table.specs.Table.{entries};
 ghost use Rattle.fieldbook.specs.Shot.{shotValues, ShotReduced};
 ghost use Rattle.pointing.specs.Pointing.{pointingValues, MarkReduced, pointed, pointing, pointingFromCard};
 
@@ -49,7 +49,7 @@ pub fn pointing_with(t: &SineTable, numbers: Numbers, angle: i64) -> Mark
 pub fn pointing(numbers: Numbers, angle: i64) -> Mark
     ensures { λ r. ⌜ (pointingValues r ≡ pointing numbers angle) × MarkReduced (pointingValues r) ⌝ }
 {
-    let t = sine::table();
+    let t = sine_table::table();
     pointing_with(&t, numbers, angle)
 }
 
@@ -72,6 +72,6 @@ pub fn pointing_from_card_with(t: &SineTable, card: Card, angle: i64) -> CardPoi
 pub fn pointing_from_card(card: Card, angle: i64) -> CardPointing
     ensures { λ r. ⌜ (pointingValues (r .mark) ≡ pointingFromCard card angle) × (r .card ≡ card) × MarkReduced (pointingValues (r .mark)) ⌝ }
 {
-    let t = sine::table();
+    let t = sine_table::table();
     pointing_from_card_with(&t, card, angle)
 }

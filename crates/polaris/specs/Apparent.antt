@@ -3,7 +3,8 @@ use mathlib.Core.List.{List, [], _∷_}
 use Prim.Native.Nat.{ℕ}
 use lib.IntN.{ℤ, pos, negℤ, _+ℤ_, _*ℤ_}
 use Rattle.exact.specs.Division.{nearestDiv}
-use Rattle.sine.specs.Sine.{R, Sin, Cos}
+use Rattle.sine_table.specs.Table.{R}
+use Rattle.sine.specs.Sine.{Sin, Cos}
 use Rattle.rotation.specs.Rotation.{rotated, rotation1, rotation2, rotation3, sinOf, cosOf}
 use Rattle.epoch.specs.declared.Epoch.{Epoch}
 use Rattle.polaris.specs.Elements.{tropicalMillionths, elementsOf}

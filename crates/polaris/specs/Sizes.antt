@@ -1,7 +1,7 @@
 -- What keeps the way to the direction of Polaris within 64 bits.
 use Prim.Native.Nat.{ℕ, _+_, _*_, _^_, _<_}
 use lib.IntN.{natAbs}
-use Rattle.sine.specs.Sine.{R}
+use Rattle.sine_table.specs.Table.{R}
 use Rattle.polaris.specs.declared.Elements.{Elements}
 
 pub record ElementsSized (k : Elements) : Type 0 where

@@ -15,7 +15,8 @@ use Rattle.exact.proofs.Differences.{split, zs}
 use Rattle.exact.proofs.Division.{nearest-multiple}
 use Rattle.exact.proofs.Machine.{held, held-is, negated}
 use Rattle.exact.proofs.Reduction.{reduced-lt, reduced-is, reduced-turns}
-use Rattle.sine.specs.Sine.{R, Sin, Cos}
+use Rattle.sine_table.specs.Table.{R}
+use Rattle.sine.specs.Sine.{Sin, Cos}
 use Rattle.sine.proofs.Extension.{sin-minus, cos-minus}
 use Rattle.rotation.specs.Rotation.{dot, rotated, sinOf, cosOf, rotation1, rotation2, rotation3}
 

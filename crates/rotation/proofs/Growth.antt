@@ -1,5 +1,5 @@
--- One bound over all angles and all axes: a rotation enlarges the squared length of a direction by 8·R + 3 at most, where that is at most 2·R². So ten rotations
--- in a row, from a direction of length R, leave it shorter than R + 40. It rests on `pythagoras` of the sine: Sin² + Cos² is at most R·(R + 3).
+-- One bound over all angles and all axes: a rotation enlarges the squared length of a direction by 7.408·R + 3 at most, where that is at most 2·R². So ten rotations
+-- in a row, from a direction of length R, leave it shorter than R + 40. It rests on `pythagoras` of the sine: Sin² + Cos² is at most R² + 2.704·R.
 use mathlib.Core.Path.{_≡_, refl, sym, ap, ap₂, _∙_}
 use mathlib.Core.List.{List, [], _∷_}
 use Prim.Native.Nat.{ℕ, _+_, _*_, _≤_, _<_}
@@ -15,7 +15,8 @@ use Rattle.exact.proofs.Products.{twice, root-le}
 use Rattle.exact.proofs.Integers.{abs-neg, abs-*}
 use Rattle.exact.proofs.Division.{nearest-size}
 use Rattle.exact.proofs.Reduction.{reduced-lt}
-use Rattle.sine.specs.Sine.{R, Sin, Cos}
+use Rattle.sine_table.specs.Table.{R}
+use Rattle.sine.specs.Sine.{Sin, Cos}
 use Rattle.sine.specs.SineContract.{circleMost}
 use Rattle.sine.proofs.Pythagoras.{pythagoras}
 use Rattle.rotation.specs.Rotation.{rotated, sinOf, cosOf}
@@ -71,10 +72,7 @@ rounded-squares a b p q n h k l m =
     both h k = omega arith
 
     go : (P A S : ℕ) → 2 * R * (2 * R * P) ≤ 4 * A + 4 * R * S + 2 * (R * R) → A ≤ n * circleMost → S ≤ 2 * (R * R) + 3 * R → P ≤ n + growth
-    go P A S h k l =
-        let e : 2 * R * (2 * R * P) ≤ 2 * R * (2 * (R + 3) * n + (4 * (R * R) + 7 * R)) = omega arith in
-        let f : 2 * R * P ≤ 2 * (R + 3) * n + (4 * (R * R) + 7 * R) = le-of-mul-le-mul-left e (lit< tt) in
-        omega arith
+    go P A S h k l = omega arith
 
 -- ---- a pair of components, rotated by any angle
 pair : (a u w : ℤ) → norm u w ≤ reach → norm (along (cosOf a) (sinOf a) u w) (across (cosOf a) (sinOf a) u w) ≤ norm u w + growth

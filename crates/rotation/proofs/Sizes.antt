@@ -15,7 +15,7 @@ use Rattle.exact.proofs.Products.{root-le}
 use Rattle.exact.proofs.Integers.{abs-neg, abs-*-le}
 use Rattle.exact.proofs.Machine.{held, held-is, fits-le}
 use Rattle.exact.proofs.Reduction.{reduced-lt}
-use Rattle.sine.specs.Sine.{R}
+use Rattle.sine_table.specs.Table.{R}
 use Rattle.sine.proofs.Monotonicity.{sin-range, cos-range}
 use Rattle.rotation.specs.Rotation.{dot, sinOf, cosOf, rotation1, rotation2, rotation3}
 use Rattle.rotation.specs.Length.{Rotation, axis1, axis2, axis3, squaredLength}

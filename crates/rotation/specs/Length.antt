@@ -2,7 +2,7 @@
 use mathlib.Core.List.{List, [], _∷_}
 use Prim.Native.Nat.{ℕ, _+_, _*_}
 use lib.IntN.{ℤ, natAbs}
-use Rattle.sine.specs.Sine.{R}
+use Rattle.sine_table.specs.Table.{R}
 use Rattle.rotation.specs.Rotation.{rotation1, rotation2, rotation3}
 
 -- the sum of the squares of the components
@@ -16,6 +16,6 @@ pub data Rotation : List (List ℤ) → Type 0 where
   axis2 : (a : ℤ) → Rotation (rotation2 a)
   axis3 : (a : ℤ) → Rotation (rotation3 a)
 
--- a rotation enlarges a squared length by this at most (proofs/Growth.antt)
+-- a rotation enlarges a squared length by this at most, 7.408·R (proofs/Growth.antt)
 abbrev pub growth : ℕ
-growth = 8 * R + 3
+growth = 7_408_000_003

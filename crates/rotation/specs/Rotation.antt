@@ -4,7 +4,8 @@ use mathlib.Core.List.{List, [], _∷_, map}
 use lib.IntN.{ℤ, pos, negℤ, _+ℤ_, _*ℤ_}
 use Rattle.exact.specs.Reduction.{reduced}
 use Rattle.exact.specs.Division.{nearestDiv}
-use Rattle.sine.specs.Sine.{R, Sin, Cos}
+use Rattle.sine_table.specs.Table.{R}
+use Rattle.sine.specs.Sine.{Sin, Cos}
 
 -- the sum of the products of a row and a direction
 unfoldable pub dot : List ℤ → List ℤ → ℤ

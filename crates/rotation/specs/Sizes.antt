@@ -3,7 +3,7 @@ use mathlib.Core.List.{List}
 use Prim.Native.Nat.{ℕ, _*_, _≤_}
 use lib.IntN.{ℤ, natAbs}
 use Rattle.exact.specs.Nth.{nth}
-use Rattle.sine.specs.Sine.{R}
+use Rattle.sine_table.specs.Table.{R}
 
 -- the squared length of the longest direction that is rotated: 2·R², where a direction is to have R²
 abbrev pub reach : ℕ

@@ -1,11 +1,11 @@
 // Directions and their rotations: document 01, "Polaris". A direction has three components in units of 1 / 1,000,000,000; a rotation has
 // three rows. Both go by value.
 use sine::RADIUS;
-use sine::SineTable;
+use sine_table::SineTable;
 ghost use mathlib.Core.Path.{_≡_};
 ghost use Prim.Native.Nat.{_+_, _≤_, _^_};
 ghost use lib.IntN.{natAbs, negℤ};
-ghost use Rattle.sine.specs.Sine.{R, entries};
+ghost use Rattle.sine_table.specs.Table.{R, entries};
 ghost use Rattle.rotation.specs.Rotation.{dot, rotated, sinOf, cosOf, rotation1, rotation2, rotation3};
 ghost use Rattle.rotation.specs.Length.{Rotation, squaredLength, growth};
 ghost use Rattle.rotation.specs.Sizes.{Bounded, reach, componentMost, sumMost};

@@ -13,7 +13,8 @@ use mir.Syntax.{w64}
 use mir.Val.{SFits, ofZ, toZ}
 use Rattle.exact.proofs.Differences.{split, zs}
 use Rattle.secular.specs.Sizes.{mostMillionths}
-use Rattle.sine.specs.Sine.{R, Sin}
+use Rattle.sine_table.specs.Table.{R}
+use Rattle.sine.specs.Sine.{Sin}
 use Rattle.series.specs.Term.{Term, value}
 use Rattle.series.specs.Sum.{total, weights}
 use Rattle.series.specs.Rows.{index, rowCount, steadyTerm, steadyTerms}

@@ -16,7 +16,7 @@ use Rattle.exact.specs.Sizes.{AllReduced}
 use Rattle.exact.proofs.Integers.{abs-*-le}
 use Rattle.exact.proofs.AllBelow.{and-l, and-r, allBelow, below-all}
 use Rattle.secular.specs.Sizes.{mostMillionths}
-use Rattle.sine.specs.Sine.{entries}
+use Rattle.sine_table.specs.Table.{entries}
 use Rattle.series.specs.Sum.{weights}
 use Rattle.series.specs.Rows.{index, steadyTerms, varyingTerms, terms}
 use Rattle.series.specs.Sizes.{Each, AtMost, steadyBounds, varyingBounds, heaviest, Indexed, counts, SteadyReady, VaryingRow, VaryingReady}

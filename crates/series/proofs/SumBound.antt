@@ -12,10 +12,12 @@ use Rattle.exact.proofs.Differences.{split, zs}
 use Rattle.exact.proofs.Division.{Within, nearest-near}
 use Rattle.exact.proofs.Integers.{abs-*-le}
 use Rattle.secular.specs.Sizes.{mostMillionths}
-use Rattle.sine.specs.SinePolynomial.{polyDen}
-use Rattle.sine.specs.Sine.{R, Sin}
-use Rattle.sine.specs.Step.{sineTolerance}
-use Rattle.sine.proofs.SineBound.{den-pos, sine-within-tolerance}
+use Rattle.sine_table.specs.SinePolynomial.{polyDen}
+use Rattle.sine_table.specs.Table.{R}
+use Rattle.sine.specs.Sine.{Sin}
+use Rattle.sine.specs.SineContract.{sineTolerance}
+use Rattle.sine_table.proofs.TableRule.{den-pos}
+use Rattle.sine.proofs.SineBound.{sine-within-tolerance}
 use Rattle.series.specs.Term.{Term, value, amplitudeOf, angleOf, weight}
 use Rattle.series.specs.Sum.{total, tableSum, polynomialSum, scaledP, weights}
 use Rattle.series.proofs.Sums.{amplitude-weight, angle-lt}

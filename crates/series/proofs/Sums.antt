@@ -12,7 +12,8 @@ use Rattle.exact.proofs.Integers.{abs-*-le}
 use Rattle.exact.proofs.Reduction.{reduced-lt}
 use Rattle.secular.specs.Sizes.{mostMillionths}
 use Rattle.secular.proofs.Bound.{value-le}
-use Rattle.sine.specs.Sine.{R, Sin}
+use Rattle.sine_table.specs.Table.{R}
+use Rattle.sine.specs.Sine.{Sin}
 use Rattle.sine.proofs.Monotonicity.{sin-range}
 use Rattle.series.specs.Term.{Term, value, amplitude, amplitudeOf, angleOf, weight}
 use Rattle.series.specs.Sum.{total, weights}

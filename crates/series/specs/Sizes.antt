@@ -9,7 +9,7 @@ use lib.Signed.{_≤ℤ_}
 use Rattle.exact.specs.Nth.{nth}
 use Rattle.exact.specs.Sizes.{AllReduced}
 use Rattle.secular.specs.Sizes.{mostMillionths}
-use Rattle.sine.specs.Sine.{entries}
+use Rattle.sine_table.specs.Table.{entries}
 use Rattle.series.specs.Sum.{weights}
 use Rattle.series.specs.Rows.{index, rowCount, steadyTerm, steadyTerms, varyingTerms}
 

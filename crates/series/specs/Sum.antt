@@ -4,8 +4,9 @@ use mathlib.Core.List.{List, [], _∷_}
 use Prim.Native.Nat.{ℕ, _+_, _*_}
 use lib.IntN.{ℤ, pos, _+ℤ_, _*ℤ_}
 use Rattle.exact.specs.Division.{nearestDiv}
-use Rattle.sine.specs.SinePolynomial.{polyDen}
-use Rattle.sine.specs.Sine.{R, Sin, polyAt}
+use Rattle.sine_table.specs.SinePolynomial.{polyDen}
+use Rattle.sine_table.specs.Table.{R}
+use Rattle.sine.specs.Sine.{Sin, polyAt}
 use Rattle.series.specs.Term.{Term, value, weight}
 
 -- the exact sum, with a function f for the sine

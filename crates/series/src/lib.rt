@@ -5,7 +5,7 @@
 // groups stand one after the other. A term whose amplitude varies is a row of six: c0, c1, c2 and the phase in units, and the multiple
 // and the index of its one argument. A cosine is a term whose phase is a quadrant more.
 use secular::Polynomial;
-use sine::SineTable;
+use sine_table::SineTable;
 ghost use mathlib.Core.Path.{_≡_};
 ghost use mathlib.Core.List.{map};
 ghost use Prim.Native.Nat.{ℕ, _*_, _≤_, _<_, _^_};
@@ -16,7 +16,8 @@ ghost use Rattle.exact.specs.Reduction.{turn, reduced};
 ghost use Rattle.exact.specs.Nth.{nth};
 ghost use Rattle.exact.specs.Sizes.{AllReduced};
 ghost use Rattle.secular.specs.Sizes.{mostMillionths};
-ghost use Rattle.sine.specs.Sine.{R, entries, Sin};
+ghost use Rattle.sine_table.specs.Table.{R, entries};
+ghost use Rattle.sine.specs.Sine.{Sin};
 ghost use Rattle.series.specs.Term.{value};
 ghost use Rattle.series.specs.Sum.{total, tableSum, weights};
 ghost use Rattle.series.specs.Rows.{steadyAngle, steadyTerm, steadyTerms, varyingTerm, varyingTerms, terms};

@@ -12,7 +12,8 @@ use Rattle.exact.specs.Reduction.{Q, turn, reduced}
 use Rattle.exact.proofs.Differences.{split, zs}
 use Rattle.exact.proofs.Integers.{abs-neg}
 use Rattle.exact.proofs.Reduction.{reduced-same, reduced-unique}
-use Rattle.sine.specs.Sine.{R, half, extended, sinQuadrant, Sin, Cos}
+use Rattle.sine_table.specs.Table.{R}
+use Rattle.sine.specs.Sine.{half, extended, sinQuadrant, Sin, Cos}
 use Rattle.sine.proofs.Quadrant.{sin-zero, sin-top}
 
 -- ---- what holds of two functions on 0..Q holds of them over the turn, of integers where it holds of both signs

@@ -10,9 +10,10 @@ use Rattle.exact.specs.Reduction.{Q, turn}
 use Rattle.exact.proofs.Integers.{abs-neg}
 use Rattle.exact.proofs.Division.{nearest-mono}
 use Rattle.exact.proofs.AllBelow.{climbs}
-use Rattle.sine.specs.Step.{step}
-use Rattle.sine.specs.Sine.{R, entryAt, sinQuadrant, Sin, Cos}
-use Rattle.sine.proofs.TableRule.{entry-climbs}
+use Rattle.sine_table.specs.Step.{step}
+use Rattle.sine_table.specs.Table.{R, entryAt}
+use Rattle.sine.specs.Sine.{sinQuadrant, Sin, Cos}
+use Rattle.sine_table.proofs.TableRule.{entry-climbs}
 use Rattle.sine.proofs.Quadrant.{sin-at, sin-top}
 use Rattle.sine.proofs.Extension.{on-turn, sin-1, cos-1, folded}
 

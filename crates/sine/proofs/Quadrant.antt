@@ -11,9 +11,10 @@ use borrow.Author.Tests.{lt-ltb}
 use Rattle.exact.specs.Division.{nearestDivℕ}
 use Rattle.exact.specs.Reduction.{Q}
 use Rattle.exact.proofs.Division.{nearest-whole}
-use Rattle.sine.specs.Step.{step}
-use Rattle.sine.specs.Sine.{R, entryAt, sinQuadrant}
-use Rattle.sine.proofs.TableRule.{entry-first, entry-last}
+use Rattle.sine_table.specs.Step.{step}
+use Rattle.sine_table.specs.Table.{R, entryAt}
+use Rattle.sine.specs.Sine.{sinQuadrant}
+use Rattle.sine_table.proofs.TableRule.{entry-first, entry-last}
 
 -- v units past entry n and u before the next
 abbrev pub mix : ℕ → ℕ → ℕ → ℕ

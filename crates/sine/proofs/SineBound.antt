@@ -1,6 +1,6 @@
 -- Demand 3, first half: at no angle of the turn do Sin and R·P differ by more than the tolerance (`sine-within-tolerance`, at the end). The one fact on closed
--- numbers that ties it to a step and a tolerance, `margin`, is computed by antt: with a step of 5′ it holds for a tolerance of 438 and for none below, with 1′
--- for 19.
+-- numbers that ties it to a step and a tolerance, `margin`, is computed by antt: with a step of 1′ it holds for a tolerance of 19 and for none below. The
+-- largest difference is 11.556, at 3,141,300,884.
 use mathlib.Core.Path.{_≡_, refl}
 use mathlib.Core.List.{List}
 use Prim.Native.Nat.{ℕ, suc, _+_, _*_, _≤_, _<_}
@@ -11,10 +11,12 @@ use lib.IntN.{ℤ, pos, negℤ, natAbs, _-ℤ_, _*ℤ_}
 use Rattle.exact.specs.Reduction.{Q, turn}
 use Rattle.exact.proofs.Differences.{split, zs}
 use Rattle.exact.proofs.Division.{Rounds, rounds}
-use Rattle.sine.specs.Step.{step, sineTolerance}
-use Rattle.sine.specs.SinePolynomial.{arc, whole, cofactor, terms, plus, minus, polyDen, polyNum}
-use Rattle.sine.specs.Sine.{R, entryAt, sinQuadrant, Sin, polyAt}
-use Rattle.sine.specs.SineContract.{IsSine}
+use Rattle.sine_table.specs.Step.{step}
+use Rattle.sine_table.specs.SinePolynomial.{arc, whole, cofactor, terms, plus, minus, polyDen, polyNum}
+use Rattle.sine_table.specs.Table.{R, entryAt}
+use Rattle.sine_table.proofs.TableRule.{entry-rounds}
+use Rattle.sine.specs.Sine.{sinQuadrant, Sin, polyAt}
+use Rattle.sine.specs.SineContract.{sineTolerance, IsSine}
 use Rattle.sine.proofs.Rounding.{Apart, mean-apart, enclosed}
 use Rattle.sine.proofs.Terms.{overs, overs-bound, terms-chord, overs-le, minus-le-plus}
 use Rattle.sine.proofs.Quadrant.{mix, sin-at, in-interval}
@@ -31,14 +33,6 @@ plus-lower = lit≤ tt
 margin : R * overs-bound step minus + 4 * (step * polyDen) ≤ 4 * (sineTolerance * (step * polyDen))
 unfolding overs-bound cofactor arc whole polyDen
 margin = lit≤ tt
-
-pub den-pos : 0 < polyDen
-unfolding polyDen whole
-den-pos = lit< tt
-
-entry-rounds : (n : ℕ) → Rounds (R * polyNum (step * n)) polyDen (entryAt n)
-unfolding entryAt
-entry-rounds n = rounds (R * polyNum (step * n)) den-pos
 
 -- the numerator with the terms that it takes away
 taken : (a : ℕ) → a ≤ Q → polyNum a + terms a minus ≡ terms a plus

@@ -7,7 +7,7 @@ use native.Mathlib.Nat.{pow-suc, mul-le-mul, mul-le-mul-left, mul-le-mul-right, 
 use native.Mathlib.Omega.{arith}
 use lib.Dec.{T, leb, leb→le}
 use Rattle.exact.specs.Reduction.{Q}
-use Rattle.sine.specs.SinePolynomial.{arc, whole, cofactor, term, terms, plus, minus}
+use Rattle.sine_table.specs.SinePolynomial.{arc, whole, cofactor, term, terms, plus, minus}
 use Rattle.sine.proofs.Chord.{t, t₁, over, chord, over-le, over-bound}
 
 -- ---- chords

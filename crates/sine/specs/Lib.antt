@@ -1,5 +1,2 @@
-pub mod Step
-pub mod SinePolynomial
 pub mod Sine
-pub mod VectorAngle
 pub mod SineContract

@@ -1,37 +1,13 @@
--- Document 01, "The sine" (RULES.md, "The sine"): the table, Sin and Cos, and P over the whole turn. An angle is reduced, in units of 0.0001″.
+-- Document 01, "The sine" (RULES.md, "The sine"): Sin and Cos from the table, and P over the whole turn. An angle is reduced, in units of 0.0001″.
 use mathlib.Core.Bool.{cond}
-use mathlib.Core.List.{List, [], _∷_}
-use Prim.Native.Nat.{ℕ, zero, suc, _+_, _-_, _*_, _/_, _%_}
+use Prim.Native.Nat.{ℕ, _+_, _-_, _*_, _/_, _%_}
 use lib.Dec.{leb, ltb}
 use lib.IntN.{ℤ, pos, negℤ}
 use Rattle.exact.specs.Division.{nearestDivℕ}
 use Rattle.exact.specs.Reduction.{Q, reduced}
-use Rattle.sine.specs.Step.{step}
-use Rattle.sine.specs.SinePolynomial.{polyNum, polyDen}
-
--- 01's R: what a sine of one is scaled to
-abbrev pub R : ℕ
-R = 1_000_000_000
-
--- the table's n-th number: R·P at n steps, to nearest
-unfoldable pub entryAt : ℕ → ℕ
-entryAt n = nearestDivℕ (R * polyNum (step * n)) polyDen
-
--- how many steps a quadrant has: 1,080
-abbrev pub stepCount : ℕ
-stepCount = Q / step
-
--- an entry at the start of each, and one at the end
-abbrev pub entryCount : ℕ
-entryCount = stepCount + 1
-
--- the entries n, n + 1, .. , k of them
-unfoldable pub entriesFrom : ℕ → ℕ → List ℕ
-entriesFrom n zero = []
-entriesFrom n (suc k) = entryAt n ∷ entriesFrom (suc n) k
-
-unfoldable pub entries : List ℕ
-entries = entriesFrom 0 entryCount
+use Rattle.sine_table.specs.Step.{step}
+use Rattle.sine_table.specs.SinePolynomial.{polyNum}
+use Rattle.sine_table.specs.Table.{R, entryAt}
 
 -- the share of r units of a step on the way from `low` to `high`, to nearest
 abbrev pub interpolated : ℕ → ℕ → ℕ → ℕ

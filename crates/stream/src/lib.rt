@@ -4,12 +4,12 @@ use libc::STDIN_FILENO;
 use libc::STDOUT_FILENO;
 use replies::Protocol;
 use replies::Question;
-use sine::SineTable;
+use sine_table::SineTable;
 ghost use mathlib.Core.Path.{_≡_};
 ghost use mathlib.Core.List.{[], _++_};
 ghost use Prim.Native.Nat.{_+_, _*_, _≤_};
 ghost use lib.ListN.{length, take};
-ghost use Rattle.sine.specs.Sine.{entries};
+ghost use Rattle.sine_table.specs.Table.{entries};
 ghost use Rattle.card.specs.Fields.{freshCard};
 ghost use Rattle.lines.specs.Appending.{Appends};
 ghost use Rattle.replies.specs.Answers.{reply, next};
@@ -319,7 +319,7 @@ fn run_with(t: &SineTable, protocol: Protocol, out: &mut [u8]) -> Fed
 
 // Runs a program: reads standard input to its end and writes the answers of each chunk as it comes in. The sine's table is named once, for the run.
 pub fn run(protocol: Protocol) {
-    let t = sine::table();
+    let t = sine_table::table();
     let mut output = [0u8; OUTPUT];
     let fed = run_with(&t, protocol, &mut output);
     let end = fed.end;

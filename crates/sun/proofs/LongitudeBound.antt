@@ -1,7 +1,7 @@
--- Demand 3, second half: the short way round, s and the polynomial longitude of an accepted instant are at most 60 units apart, whatever the
--- aberration. The figure follows by computation from the lists of terms and the sine's tolerance: the law gives 50 units for the first sum and 1 for
--- Δψ, 51 in all. Another list of terms, or another table, changes the figure here and no proof. No bound below 20 holds: `twenty-apart`
--- (FarthestKnown.antt) is the instant that comes as near to the bound as any known, 1976-03-31 03:54:05.235 with DUT1 and ΔT 0.
+-- Demand 3, second half: the short way round, s and the polynomial longitude of an accepted instant are at most 4 units apart, whatever the aberration.
+-- The figure follows by computation from the lists of terms and the sine's tolerance: the law gives 3 units for the first sum and 1 for Δψ, and so 4
+-- and nothing less. Another list of terms, or another table, changes the figure here and no proof. No bound below 2 holds: `two-apart`
+-- (FarthestKnown.antt) is the instant that comes as near to the bound as any known, 1994-03-22 13:19:32.701 with DUT1 and ΔT 0.
 use mathlib.Core.Path.{_≡_}
 use mathlib.Core.List.{List}
 use Prim.Native.Nat.{ℕ, _+_, _-_, _*_, _/_, _≤_}
@@ -15,8 +15,8 @@ use Rattle.exact.proofs.Differences.{split, zs}
 use Rattle.exact.proofs.Division.{Within}
 use Rattle.exact.proofs.Reduction.{short-way-le}
 use Rattle.secular.specs.Sizes.{mostMillionths, most}
-use Rattle.sine.specs.Sine.{R}
-use Rattle.sine.specs.Step.{sineTolerance}
+use Rattle.sine_table.specs.Table.{R}
+use Rattle.sine.specs.SineContract.{sineTolerance}
 use Rattle.epoch.proofs.Sizes.{q-size}
 use Rattle.calendar.specs.Time.{instantOf, accepted}
 use Rattle.calendar.specs.declared.CivilTime.{CivilTime}

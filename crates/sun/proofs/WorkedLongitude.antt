@@ -1,5 +1,5 @@
 -- Lines of the outside vectors, computed from the definitions: the polynomial longitude of an instant with ΔT, from its eight numbers on, with every
--- fraction exact. This tests the definition, which no function computes. The lines are of the largest distance from s in those vectors, 18 units, to
+-- fraction exact. This tests the definition, which no function computes. The lines are of the largest distance from s in those vectors, one unit, to
 -- either side.
 use mathlib.Core.Path.{_≡_, refl}
 use Prim.Native.Nat.{ℕ}
@@ -7,7 +7,7 @@ use lib.IntN.{ℤ, pos, negℤ}
 use Rattle.exact.specs.Reduction.{rest, reduced}
 use Rattle.exact.specs.Division.{floorDiv, nearestDiv}
 use Rattle.secular.specs.FlooredPolynomial as secular
-use Rattle.sine.specs.SinePolynomial.{arc, whole, polyDen, cofactor, term, polyNum}
+use Rattle.sine_table.specs.SinePolynomial.{arc, whole, polyDen, cofactor, term, polyNum}
 use Rattle.sine.specs.Sine.{polyAt}
 use Rattle.epoch.specs.Epoch.{millionths}
 use Rattle.calendar.specs.Date.{leapYear, yearDays, monthDays, dayCount}
@@ -36,17 +36,17 @@ polynomialOf year month day hour minute millisecond dut1 deltaT =
     })
     .ephemeris)
 
--- s is 524029457
-year-2009 : polynomialOf 2009 4 4 4 48 50_877 (pos 0) 120_000 ≡ 524_029_475
+-- s is 11398846525
+year-1993 : polynomialOf 1993 2 5 10 19 24_559 (pos 900) 120_000 ≡ 11_398_846_526
 unfolding instant since1900 dayMillisecond dayCount yearDays monthDays leapYear millionths polynomialLongitude polynomialBy aberration polynomialSum total value secular.value angleOf argumentsOf rows argument rest reduced floorDiv nearestDiv arc whole polyDen cofactor term polyNum polyAt
-year-2009 = refl
+year-1993 = refl
 
--- s is 7044125790
-year-2040 : polynomialOf 2040 10 8 8 25 4_579 (pos 0) 75_270 ≡ 7_044_125_772
+-- s is 7922931293
+year-2044 : polynomialOf 2044 11 1 20 48 4_106 (pos 211) 84_310 ≡ 7_922_931_292
 unfolding instant since1900 dayMillisecond dayCount yearDays monthDays leapYear millionths polynomialLongitude polynomialBy aberration polynomialSum total value secular.value angleOf argumentsOf rows argument rest reduced floorDiv nearestDiv arc whole polyDen cofactor term polyNum polyAt
-year-2040 = refl
+year-2044 = refl
 
--- s is 7218257998
-year-2020 : polynomialOf 2020 10 13 9 35 19_390 (negℤ (pos 900)) 53_845 ≡ 7_218_257_980
+-- s is 4089519055
+year-2015 : polynomialOf 2015 7 16 10 28 59_077 (negℤ (pos 900)) 61_694 ≡ 4_089_519_054
 unfolding instant since1900 dayMillisecond dayCount yearDays monthDays leapYear millionths polynomialLongitude polynomialBy aberration polynomialSum total value secular.value angleOf argumentsOf rows argument rest reduced floorDiv nearestDiv arc whole polyDen cofactor term polyNum polyAt
-year-2020 = refl
+year-2015 = refl

@@ -38,7 +38,7 @@ polynomialLongitude aberration arguments q = polynomialBy firstSum aberration ar
 
 -- demand 3: how many units the two may be apart
 abbrev pub longitudeTolerance : ℕ
-longitudeTolerance = 60
+longitudeTolerance = 4
 
 -- the centre terms alone, rounded as the first sum is
 unfoldable pub equationOfCentre : List ℤ → ℤ → ℤ

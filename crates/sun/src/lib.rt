@@ -3,14 +3,15 @@ mod tables;
 
 use epoch::Epoch;
 use rotation::Direction;
-use sine::SineTable;
+use sine_table::SineTable;
 pub use tables::ABERRATION;
 ghost use mathlib.Core.Path.{_≡_};
 ghost use Prim.Native.Nat.{_+_, _*_, _≤_, _<_, _^_};
 ghost use lib.IntN.{natAbs};
 ghost use Rattle.exact.specs.Reduction.{turn};
 ghost use Rattle.secular.specs.Sizes.{mostMillionths};
-ghost use Rattle.sine.specs.Sine.{R, entries, Sin};
+ghost use Rattle.sine_table.specs.Table.{R, entries};
+ghost use Rattle.sine.specs.Sine.{Sin};
 ghost use Rattle.sine.specs.SineContract.{circleMost};
 ghost use Rattle.rotation.specs.Length.{squaredLength, growth};
 ghost use Rattle.epoch.specs.Sizes.{InSpan};

@@ -2,14 +2,14 @@
 use crate::output;
 use refusal::Refusal;
 use rotation::Direction;
-use sine::SineTable;
+use sine_table::SineTable;
 use site::Located;
 use site::Position;
 use site::Site;
 ghost use mathlib.Core.Path.{_≡_};
 ghost use Prim.Native.Nat.{_+_, _*_, _≤_, _<_};
 ghost use Rattle.exact.specs.Reduction.{turn};
-ghost use Rattle.sine.specs.Sine.{entries};
+ghost use Rattle.sine_table.specs.Table.{entries};
 ghost use Rattle.rotation.specs.Length.{squaredLength, growth};
 ghost use Rattle.rotation.specs.Sizes.{reach};
 ghost use Rattle.site.specs.Sizes.{PositionSized};
@@ -41,7 +41,7 @@ pub fn of_vector(t: &SineTable, x: i64, y: i64)
         return output::malformed();
     }
     output::accepted();
-    output::natural(sine::angle(t, x, y));
+    output::natural(vector_angle::angle(t, x, y));
 }
 
 // The view of a direction (x, y, z) at a sidereal time, from a latitude and a longitude in 0.1″.

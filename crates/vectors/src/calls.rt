@@ -3,9 +3,9 @@ use crate::output;
 use crate::words;
 use card::Card;
 use card::CardAnswer;
-use sine::SineTable;
+use sine_table::SineTable;
 ghost use mathlib.Core.Path.{_≡_};
-ghost use Rattle.sine.specs.Sine.{entries};
+ghost use Rattle.sine_table.specs.Table.{entries};
 
 // The longest buffer that a reading is given.
 const LONGEST: usize = 64;

@@ -11,7 +11,7 @@ use frame::Frame;
 use polaris::Elements;
 use refusal::Refusal;
 use rotation::Direction;
-use sine::SineTable;
+use sine_table::SineTable;
 use site::Position;
 use site::Site;
 ghost use mathlib.Core.Path.{_≡_};
@@ -19,7 +19,7 @@ ghost use Prim.Native.Nat.{_+_, _*_, _≤_, _<_, _^_};
 ghost use lib.IntN.{natAbs};
 ghost use lib.ListN.{length};
 ghost use Rattle.exact.specs.Reduction.{turn};
-ghost use Rattle.sine.specs.Sine.{entries};
+ghost use Rattle.sine_table.specs.Table.{entries};
 ghost use Rattle.rotation.specs.Length.{squaredLength, growth};
 ghost use Rattle.rotation.specs.Sizes.{reach};
 ghost use Rattle.epoch.specs.Sizes.{InSpan};
@@ -149,8 +149,8 @@ fn write_equatorial(t: &SineTable, d: Direction)
     let m = exact::magnitude(d[0]);
     let n = exact::magnitude(d[1]);
     let h = exact::root(m * m + n * n) as i64;
-    output::natural(sine::angle(t, d[0], d[1]));
-    write_short_way(sine::angle(t, h, d[2]));
+    output::natural(vector_angle::angle(t, d[0], d[1]));
+    write_short_way(vector_angle::angle(t, h, d[2]));
 }
 
 // A reduced angle, less a turn where that is nearer to 0: a declination is negative south of the equator.

@@ -10,10 +10,10 @@ mod words;
 
 use card::Card;
 use libc::STDIN_FILENO;
-use sine::SineTable;
+use sine_table::SineTable;
 use words::Word;
 ghost use mathlib.Core.Path.{_≡_};
-ghost use Rattle.sine.specs.Sine.{entries};
+ghost use Rattle.sine_table.specs.Table.{entries};
 
 // The bytes of the buffer that the whole of standard input is read into.
 const ROOM: usize = 262_144;
@@ -24,7 +24,7 @@ const DIGITS: usize = 18;
 // The sine's table is named once, for the run. Input that fills the buffer may not have come whole, and is answered one line 14 more, so that none is
 // lost unseen.
 fn main() {
-    let t = sine::table();
+    let t = sine_table::table();
     let mut input = [0u8; ROOM];
     let n = io::read_full(STDIN_FILENO, &mut input);
     answer_all(&t, &input[..n]);

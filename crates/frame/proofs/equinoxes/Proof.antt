@@ -11,7 +11,8 @@ use Rattle.exact.specs.Reduction.{reduced}
 use Rattle.exact.specs.Division.{nearestDiv}
 use Rattle.exact.proofs.Integers.{abs-*-le}
 use Rattle.exact.proofs.Machine.{ok-fits, fits-le}
-use Rattle.sine.specs.Sine.{R, Cos}
+use Rattle.sine_table.specs.Table.{R}
+use Rattle.sine.specs.Sine.{Cos}
 use Rattle.frame.specs.Sidereal.{equinoxes}
 use Rattle.frame.proofs.equinoxes.Statement.{statement}
 use Rattle.frame.proofs.equinoxes.Tie as tie

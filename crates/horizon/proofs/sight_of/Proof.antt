@@ -13,7 +13,7 @@ use borrow.Author.Tests.{lt-ltb, le-ltb}
 use Rattle.exact.specs.Largest.{root}
 use Rattle.exact.proofs.Machine.{negated, as-signed}
 use Rattle.exact.proofs.Products.{root-le}
-use Rattle.sine.specs.VectorAngle.{angle}
+use Rattle.vector_angle.specs.VectorAngle.{angle}
 use Rattle.horizon.specs.Horizon.{horizontalSquare, seen, sightOf}
 use Rattle.horizon.proofs.sight_of.Statement.{statement}
 use Rattle.horizon.proofs.sight_of.Tie as tie

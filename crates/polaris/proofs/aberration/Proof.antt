@@ -10,7 +10,8 @@ use mir.Val.{SFits}
 use borrow.Author.Needs.{needs}
 use Rattle.exact.specs.Reduction.{reduced}
 use Rattle.exact.proofs.Machine.{held, held-is, ok-fits, negated}
-use Rattle.sine.specs.Sine.{R, Sin, Cos}
+use Rattle.sine_table.specs.Table.{R}
+use Rattle.sine.specs.Sine.{Sin, Cos}
 use Rattle.rotation.specs.Rotation.{sinOf, cosOf}
 use Rattle.rotation.specs.Sizes.{Bounded}
 use Rattle.rotation.proofs.Sizes.{bounded}

@@ -13,7 +13,8 @@ use Rattle.exact.specs.Division.{nearestDiv}
 use Rattle.exact.proofs.Differences.{split, zs}
 use Rattle.exact.proofs.Machine.{ok-fits}
 use Rattle.exact.proofs.Reduction.{reduced-lt}
-use Rattle.sine.specs.Sine.{R, Sin, Cos}
+use Rattle.sine_table.specs.Table.{R}
+use Rattle.sine.specs.Sine.{Sin, Cos}
 use Rattle.sine.specs.SineContract.{circleMost}
 use Rattle.rotation.specs.Rotation.{rotated, sinOf, cosOf, rotation3}
 use Rattle.rotation.specs.Length.{squaredLength}

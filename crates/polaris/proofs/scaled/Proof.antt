@@ -9,7 +9,7 @@ use mir.Syntax.{w64}
 use mir.Val.{SFits}
 use Rattle.exact.proofs.Integers.{abs-*-le}
 use Rattle.exact.proofs.Machine.{ok-fits, fits-le}
-use Rattle.sine.specs.Sine.{R}
+use Rattle.sine_table.specs.Table.{R}
 use Rattle.rotation.proofs.Growth.{rounded}
 use Rattle.polaris.specs.Apparent.{scaled}
 use Rattle.polaris.proofs.scaled.Statement.{statement}

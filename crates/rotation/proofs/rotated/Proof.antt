@@ -10,7 +10,7 @@ use mir.Facts.{toZ-ofZ}
 use borrow.Author.Needs.{needs}
 use Rattle.exact.specs.Division.{nearestDiv}
 use Rattle.exact.proofs.Machine.{ok-fits}
-use Rattle.sine.specs.Sine.{R}
+use Rattle.sine_table.specs.Table.{R}
 use Rattle.rotation.specs.Rotation.{dot}
 use Rattle.rotation.specs.Sizes.{Bounded, componentMost}
 use Rattle.rotation.proofs.Sizes.{entries-le, components-le}

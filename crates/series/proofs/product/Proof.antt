@@ -9,7 +9,8 @@ use borrow.Author.Needs.{needs}
 use Rattle.exact.specs.Reduction.{reduced}
 use Rattle.exact.proofs.Integers.{abs-*-le}
 use Rattle.exact.proofs.Machine.{ok-fits, fits-le}
-use Rattle.sine.specs.Sine.{R, Sin}
+use Rattle.sine_table.specs.Table.{R}
+use Rattle.sine.specs.Sine.{Sin}
 use Rattle.series.proofs.product.Statement.{statement}
 use Rattle.series.proofs.product.Tie as tie
 

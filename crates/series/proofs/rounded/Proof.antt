@@ -8,7 +8,7 @@ use lib.Signed.{ltZ-yes}
 use mir.Facts.{toZ-ofZ}
 use Rattle.exact.proofs.Division.{nearest-abs}
 use Rattle.exact.proofs.Machine.{ok-fits}
-use Rattle.sine.specs.Sine.{R}
+use Rattle.sine_table.specs.Table.{R}
 use Rattle.series.proofs.rounded.Statement.{statement}
 use Rattle.series.proofs.rounded.Tie as tie
 

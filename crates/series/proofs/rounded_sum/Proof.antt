@@ -8,7 +8,8 @@ use mir.Syntax.{w64}
 use mir.Val.{SFits}
 use Rattle.exact.specs.Division.{nearestDiv}
 use Rattle.exact.proofs.Machine.{ok-fits}
-use Rattle.sine.specs.Sine.{R, Sin}
+use Rattle.sine_table.specs.Table.{R}
+use Rattle.sine.specs.Sine.{Sin}
 use Rattle.series.specs.Term.{Term}
 use Rattle.series.specs.Sum.{total, tableSum, weights}
 use Rattle.series.specs.Rows as Rows

@@ -11,7 +11,8 @@ use mir.Val.{SFits}
 use borrow.Author.Needs.{needs}
 use Rattle.exact.proofs.Differences.{split, zs}
 use Rattle.exact.proofs.Machine.{ok-fits, fits-le}
-use Rattle.sine.specs.Sine.{R, Sin}
+use Rattle.sine_table.specs.Table.{R}
+use Rattle.sine.specs.Sine.{Sin}
 use Rattle.series.specs.Term.{Term}
 use Rattle.series.specs.Sum.{total, weights}
 use Rattle.series.specs.Rows.{varyingTerms, steadyTerms}

@@ -5,8 +5,9 @@ use native.Mathlib.Nat.{mul-le-mul, mul-le-mul-left}
 use native.Mathlib.Omega.{arith}
 use borrow.Author.Needs.{needs}
 use Rattle.exact.specs.Division.{nearestDivℕ}
-use Rattle.sine.specs.Step.{step}
-use Rattle.sine.specs.Sine.{R, interpolated}
+use Rattle.sine_table.specs.Step.{step}
+use Rattle.sine_table.specs.Table.{R}
+use Rattle.sine.specs.Sine.{interpolated}
 use Rattle.sine.proofs.interpolated.Statement.{statement}
 use Rattle.sine.proofs.interpolated.Tie as tie
 

@@ -3,9 +3,9 @@ use Prim.Native.Nat.{_+_, _/_, _%_}
 use native.Mathlib.Omega.{arith}
 use borrow.Author.Needs.{needs}
 use borrow.Author.Tests.{lt-ltb}
-use Rattle.sine.specs.Step.{step}
+use Rattle.sine_table.specs.Step.{step}
 use Rattle.sine.specs.Sine.{interpolated, sinQuadrant}
-use Rattle.sine.proofs.TableRule.{entry-climbs}
+use Rattle.sine_table.proofs.TableRule.{entry-climbs}
 use Rattle.sine.proofs.sin_quadrant.Statement.{statement}
 use Rattle.sine.proofs.sin_quadrant.Tie as tie
 

@@ -15,7 +15,8 @@ use Rattle.exact.specs.Division.{floorDiv, nearestDiv}
 use Rattle.exact.proofs.Differences.{split, zs}
 use Rattle.exact.proofs.Machine.{ok-fits, fits-lt}
 use Rattle.secular.specs.Sizes.{most}
-use Rattle.sine.specs.Sine.{R, Sin}
+use Rattle.sine_table.specs.Table.{R}
+use Rattle.sine.specs.Sine.{Sin}
 use Rattle.epoch.proofs.Sizes.{q-size, q-fits}
 use Rattle.arguments.specs.PrintedArguments.{L, argumentCount}
 use Rattle.series.specs.Sum.{total, tableSum, weights}

@@ -9,7 +9,8 @@ use borrow.Author.Needs.{needs}
 use Rattle.exact.specs.Division.{floorDiv, nearestDiv}
 use Rattle.exact.proofs.Machine.{ok-fits}
 use Rattle.secular.specs.Sizes.{most}
-use Rattle.sine.specs.Sine.{R, Sin}
+use Rattle.sine_table.specs.Table.{R}
+use Rattle.sine.specs.Sine.{Sin}
 use Rattle.arguments.specs.PrintedArguments.{argumentCount}
 use Rattle.series.specs.Sum.{total, weights}
 use Rattle.series.specs.Rows.{kept, steadyTerm, steadyTerms, varyingTerm}

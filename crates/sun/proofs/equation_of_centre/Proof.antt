@@ -8,7 +8,7 @@ use mir.Syntax.{w64}
 use mir.Val.{SFits}
 use Rattle.exact.specs.Division.{nearestDiv}
 use Rattle.exact.proofs.Machine.{ok-fits}
-use Rattle.sine.specs.Sine.{R}
+use Rattle.sine_table.specs.Table.{R}
 use Rattle.epoch.proofs.Sizes.{q-size, q-fits}
 use Rattle.series.specs.Sum.{tableSum}
 use Rattle.sun.specs.Longitude.{equationOfCentre}
