@@ -132,8 +132,8 @@ impl Card {
 mod tests {
     use super::*;
 
-    /// The Sun on 13 November 1978, answered in the outside vectors of shots.
-    const FIELDS: Fields = [1978, 11, 13, 16, 14, 55_172, -397, -1_338_869, -2_103_302, 1, 50_440];
+    /// The Sun on 31 May 1978, answered in the outside vectors of shots.
+    const FIELDS: Fields = [1978, 5, 31, 14, 9, 4_339, 109, 1_573_902, -1_527_135, 1, 113_407];
 
     /// A shot needs all eleven fields, whatever numbers stand in the others.
     #[test]

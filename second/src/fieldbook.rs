@@ -125,8 +125,8 @@ mod tests {
     use super::*;
     use crate::calendar::LARGEST_DELTA_T;
 
-    /// The Sun under the horizon on 5 April 2032, in the outside vectors of shots.
-    const BELOW: Fields = [2032, 4, 5, 6, 57, 23_842, -110, 2_361_414, -5_689_280, 1, 0];
+    /// The Sun under the horizon on 7 February 2020, in the outside vectors of shots.
+    const BELOW: Fields = [2020, 2, 7, 9, 2, 56_607, 0, 2_446_846, -5_451_337, 1, 0];
 
     /// The refusal of these fields.
     fn refusal(fields: &Fields) -> Option<Refusal> {

@@ -31,10 +31,10 @@ mod tests {
     use super::*;
     use crate::exact::TURN;
 
-    /// The Sun on 13 November 1978.
-    const FIELDS: Fields = [1978, 11, 13, 16, 14, 55_172, -397, -1_338_869, -2_103_302, 1, 50_440];
+    /// The Sun on 31 May 1978.
+    const FIELDS: Fields = [1978, 5, 31, 14, 9, 4_339, 109, 1_573_902, -1_527_135, 1, 113_407];
     /// Its azimuth in the outside vectors of shots.
-    const AZIMUTH: i64 = 12_046_322_177;
+    const AZIMUTH: i64 = 5_652_497_415;
 
     #[test]
     fn angle_is_subtracted_and_reduced() {

@@ -167,15 +167,15 @@ mod tests {
         let mut answer = |line: &str| card_line(&sine, &mut card, line.as_bytes());
         let fresh = "| e e e e e e e e e e e";
         assert_eq!(answer("pointing -1"), Ok(format!("1 0 {fresh}")));
-        let fields = [1978, 11, 13, 16, 14, 55_172, -397, -1_338_869, -2_103_302, 1, 50_440];
+        let fields = [1978, 5, 31, 14, 9, 4_339, 109, 1_573_902, -1_527_135, 1, 113_407];
         for (field, number) in (1..).zip(fields) {
             for call in ["hear F N", "read F 0 000000000000000000000000000000", "confirm F"] {
                 let call = call.replace('F', &format!("{field}"));
                 assert!(answer(&call.replace('N', &format!("{number}"))).is_ok());
             }
         }
-        let confirmed = "| c1978 c11 c13 c16 c14 c55172 c-397 c-1338869 c-2103302 c1 c50440";
-        assert_eq!(answer("pointing 177"), Ok(format!("0 12046322000 {confirmed}")));
+        let confirmed = "| c1978 c5 c31 c14 c9 c4339 c109 c1573902 c-1527135 c1 c113407";
+        assert_eq!(answer("pointing 415"), Ok(format!("0 5652497000 {confirmed}")));
         assert_eq!(answer("pointing -1"), Ok(format!("15 0 {confirmed}")));
         for line in ["pointing", "pointing  5", "pointing 5 5", "pointing x"] {
             assert_eq!(answer(line), Err(Refusal::MalformedLine));

@@ -1,8 +1,20 @@
-// The shot: where a body stands.
+// The shot: where a body stands; and many shots in one call, document 02, request 5.
 use fieldbook::Outcome;
+use sine_table::SineTable;
 ghost use mathlib.Core.Path.{_≡_};
-ghost use Rattle.fieldbook.specs.Shot.{ShotReduced, shot};
+ghost use mathlib.Core.List.{_++_};
+ghost use Prim.Native.Nat.{_*_, _≤_};
+ghost use lib.ListN.{length, drop};
+ghost use Rattle.sine_table.specs.Table.{entries};
+ghost use Rattle.card.specs.Fields.{fieldCount};
+ghost use Rattle.fieldbook.specs.Shot.{numbersOf, shotValues, ShotReduced, shot};
 ghost use Rattle.capi.specs.Interface.{numbers, shotAnswerValues};
+ghost use Rattle.capi.specs.Rows.{wordCount, shotWords, rowCount, answersTo};
+
+// How many numbers a row of many shots has, and how many words its answer.
+const NUMBERS: usize = 11;
+
+const WORDS: usize = 5;
 
 // What a shot answers, laid out as in C: the refusal's number, 0 for none, and azimuth, zenith distance, hour angle and s, in units of
 // 0.0001 second of arc. A refusal's angles are 0.
@@ -13,6 +25,28 @@ pub struct ShotAnswer {
     pub zenith_distance: u64,
     pub hour_angle: u64,
     pub longitude: u64,
+}
+
+// The book's answer in those words.
+fn answer_of(outcome: Outcome) -> ShotAnswer
+    ensures { λ r. ⌜ shotAnswerValues r ≡ shotValues outcome ⌝ }
+{
+    match outcome {
+        Outcome::Answered(a) => ShotAnswer {
+            refusal: 0,
+            azimuth: a.azimuth,
+            zenith_distance: a.zenith_distance,
+            hour_angle: a.hour_angle,
+            longitude: a.longitude,
+        },
+        Outcome::Refused(refusal) => ShotAnswer {
+            refusal: refusal::number_of(refusal),
+            azimuth: 0,
+            zenith_distance: 0,
+            hour_angle: 0,
+            longitude: 0,
+        },
+    }
 }
 
 // The shot with eleven plain numbers.
@@ -45,20 +79,52 @@ pub extern "C" fn fieldbook_shot(
         body,
         delta_t,
     ];
-    match fieldbook::shot(fieldbook::numbers_of(&fields)) {
-        Outcome::Answered(a) => ShotAnswer {
-            refusal: 0,
-            azimuth: a.azimuth,
-            zenith_distance: a.zenith_distance,
-            hour_angle: a.hour_angle,
-            longitude: a.longitude,
-        },
-        Outcome::Refused(refusal) => ShotAnswer {
-            refusal: refusal::number_of(refusal),
-            azimuth: 0,
-            zenith_distance: 0,
-            hour_angle: 0,
-            longitude: 0,
-        },
+    answer_of(fieldbook::shot(fieldbook::numbers_of(&fields)))
+}
+
+// Writes the words of an answer at the front of a list.
+fn put(answers: &mut [u64], a: ShotAnswer)
+    requires { ⌜ wordCount ≤ length (now answers) ⌝ }
+    ensures { λ _. ⌜ now (answers .exit) ≡ shotWords (shotAnswerValues a) ++ drop wordCount (now (answers .entry)) ⌝ }
+{
+    answers[0] = a.refusal;
+    answers[1] = a.azimuth;
+    answers[2] = a.zenith_distance;
+    answers[3] = a.hour_angle;
+    answers[4] = a.longitude;
+}
+
+// The shot of the row at the front of a list, its answer at the front of another.
+fn answer_row(t: &SineTable, rows: &[i64], answers: &mut [u64])
+    requires { ⌜ (now t ≡ entries) × (fieldCount ≤ length (now rows)) × (wordCount ≤ length (now answers)) ⌝ }
+    ensures { λ _. ⌜ now (answers .exit) ≡ shotWords (shot (numbersOf (now (rows .entry)))) ++ drop wordCount (now (answers .entry)) ⌝ }
+{
+    put(
+        answers,
+        answer_of(fieldbook::shot_with(t, fieldbook::numbers_of(rows))),
+    );
+}
+
+// For how many rows there are numbers, and room for their answers.
+fn row_count(rows: &[i64], answers: &[u64]) -> usize
+    ensures { λ r. ⌜ r ≡ rowCount (now (rows .entry)) (now (answers .entry)) ⌝ }
+{
+    let asked = rows.len() / NUMBERS;
+    let room = answers.len() / WORDS;
+    if asked < room { asked } else { room }
+}
+
+// The shots of all rows of eleven numbers, the answers in rows of five words, with one table of the sine for all: how many were answered,
+// by what there are numbers and room for. What no answer takes of `answers` stays as it was.
+#[no_mangle]
+pub extern "C" fn fieldbook_shots(rows: &[i64], answers: &mut [u64]) -> u64
+    ensures { λ r. ⌜ r ≡ rowCount (now (rows .entry)) (now (answers .entry)) ⌝ }
+    ensures { λ r. ⌜ now (answers .exit) ≡ answersTo r (now (rows .entry)) ++ drop (wordCount * r) (now (answers .entry)) ⌝ }
+{
+    let t = sine_table::table();
+    let count = row_count(rows, answers);
+    for i in 0..count {
+        answer_row(&t, &rows[NUMBERS * i..], &mut answers[WORDS * i..]);
     }
+    count as u64
 }

@@ -32,7 +32,11 @@ fn sin_quadrant(t: &SineTable, a: u64) -> u64
     ensures { λ r. ⌜ (r ≡ sinQuadrant a) × (r ≤ R) ⌝ }
 {
     let n = (a / STEP) as usize;
-    interpolated(sine_table::entry_at(t, n), sine_table::entry_at(t, n + 1), a % STEP)
+    interpolated(
+        sine_table::entry_at(t, n),
+        sine_table::entry_at(t, n + 1),
+        a % STEP,
+    )
 }
 
 // Sin on the first half of the turn, its end included: mirrored at a quadrant, where it is R.

@@ -1,0 +1,66 @@
+-- Rows of many shots: they lie inside their lists, and the answer to one row more.
+use mathlib.Core.Path.{_≡_, refl, ap, _∙_}
+use mathlib.Core.Bool.{Bool, true, false, cond}
+use mathlib.Core.List.{List, _++_}
+use Prim.Native.Nat.{ℕ, zero, suc, _+_, _-_, _*_, _/_, _≤_}
+use native.Mathlib.Nat.{le-refl}
+use native.Mathlib.Numerals.{add-one}
+use native.Mathlib.Omega.{arith}
+use lib.Dec.{ltb}
+use lib.IntN.{ℤ}
+use lib.ListN.{length, take, drop, length-append, length-drop}
+use lib.Seq.{take-at, drop-append-add, drop-drop, take-all}
+use borrow.Author.Tests.{ltb-true, ltb-false}
+use borrow.Rule.Slice.PartMut.{putMid}
+use Rattle.digits.proofs.Lists.{put-tail}
+use Rattle.card.specs.Fields.{fieldCount}
+use Rattle.fieldbook.specs.Shot.{numbersOf, shot}
+use Rattle.capi.specs.Rows.{shotWords, wordCount, rowCount, answersTo}
+
+-- ---- the fewer of two
+fewer : (a b : ℕ) → (cond (ltb a b) a b ≤ a) × (cond (ltb a b) a b ≤ b)
+fewer a b = by (ltb a b) refl
+  where
+    by : (t : Bool) → ltb a b ≡ t → (cond t a b ≤ a) × (cond t a b ≤ b)
+    by true e = (le-refl a, omega (arith, ltb-true a b e))
+    by false e = (omega (arith, ltb-false a b e), le-refl b)
+
+pub within : (rows : List ℤ) (answers : List ℕ) → (fieldCount * rowCount rows answers ≤ length rows) × (wordCount * rowCount rows answers ≤ length answers)
+within rows answers = let h = fewer (length rows / fieldCount) (length answers / wordCount) in (omega (arith, h .0), omega (arith, h .1))
+
+-- ---- the words of the first k rows
+length-answers : (k : ℕ) (rows : List ℤ) → length (answersTo k rows) ≡ wordCount * k
+unfolding answersTo
+length-answers zero rows = refl
+length-answers (suc k) rows = simp length-append (omega (arith, length-answers k rows))
+
+-- ---- the list of answers on its way: the words of the first i rows, and behind them what was there before
+pub same-length : (rows : List ℤ) (before : List ℕ) (i : ℕ) (l : List ℕ) → wordCount * i ≤ length before → l ≡ answersTo i rows ++ drop (wordCount * i) before
+    → length l ≡ length before
+same-length rows before i l h e = rw e (simp (length-append, length-drop) (omega (arith, length-answers i rows)))
+
+-- of such a list l the part from row i on comes back as y, with the words of that row at its front
+module _ (rows : List ℤ) (before : List ℕ) (i : ℕ) (l y : List ℕ) (inside : wordCount * suc i ≤ length before)
+    (so-far : l ≡ answersTo i rows ++ drop (wordCount * i) before) where
+  abbrev words : List ℕ
+  words = shotWords (shot (numbersOf (drop (fieldCount * i) rows)))
+
+  front : take (wordCount * i) l ≡ answersTo i rows
+  front = rw so-far (take-at (answersTo i rows) (drop (wordCount * i) before) (wordCount * i) (length-answers i rows))
+
+  back : drop (wordCount * i + wordCount) l ≡ drop (wordCount * suc i) before
+  back =
+      let n : wordCount * i + wordCount ≡ length (answersTo i rows) + wordCount = omega (arith, length-answers i rows) in
+      let m : wordCount * i + wordCount ≡ wordCount * suc i = omega arith in
+      rw so-far
+      (ap (λ (k : ℕ). drop k (answersTo i rows ++ drop (wordCount * i) before)) n
+      ∙ drop-append-add (answersTo i rows) (drop (wordCount * i) before) wordCount ∙ drop-drop wordCount (wordCount * i) before ∙ ap (λ (k : ℕ). drop k before) m)
+
+  pub one-more : y ≡ shotWords (shot (numbersOf (take (length rows - fieldCount * i) (drop (fieldCount * i) rows)))) ++ drop wordCount (take (length l - wordCount * i) (drop (wordCount * i) l))
+      → putMid (wordCount * i) (length l - wordCount * i) l y ≡ answersTo (i + 1) rows ++ drop (wordCount * (i + 1)) before
+  unfolding answersTo
+  one-more e =
+      let row = take-all (length rows - fieldCount * i) (drop (fieldCount * i) rows) (simp length-drop (omega arith)) in
+      rw add-one
+      (put-tail (wordCount * i) l words y (omega (arith, same-length rows before i l (omega arith) so-far)) (rw row at e)
+      ∙ (λ j. front j ++ words ++ back j))
