@@ -2,7 +2,9 @@
 """vectors.py VECTORS SECOND: writes the stored run of the program `vectors`, crates/vectors/stdin and stdout: a line that asks, and the line that must
 answer it. VECTORS is the folder of the outside vectors, SECOND the second program. No answer comes from the program under test: most are what the vector
 files have behind the `=`, the lines of crates/vectors/cases.txt are answered there, and the Sun's numbers at the almanacs' instants are the second
-program's, as are the calls that bring the numbers of a pointing onto a card. Prints how many lines each word has. Where a line of longitude.txt breaks its own bound, nothing is written."""
+program's, as are the calls that bring the numbers of a pointing onto a card. card.txt and pointing.txt are older than request 5: what hangs on the sine,
+the angles of an answered shot and whether it is refused by 7 or 8, is the second program's, which must agree with them in everything else. Prints how
+many lines each word has. Where a line of longitude.txt breaks its own bound, nothing is written."""
 import collections
 import os
 import sys
@@ -112,8 +114,8 @@ def some_shots(lines):
 
 
 def pointings_from_cards(second, lines):
-    """A pointing of each kind from a card: refused by 1 on the fresh card, and answered as pointing.txt has it where every number was heard, read and
-    confirmed. The calls before it are answered by the second program, which must agree on the pointing."""
+    """A pointing of each kind of pointing.txt from a card: refused by 1 on the fresh card, and answered where every number was heard, read and confirmed.
+    The answers are the second program's, which must agree with the file on what does not hang on the sine."""
     found = []
     for left, right in first_of_each([(left, right) for left, right in lines if can_be_heard(left)], POINTINGS):
         *fields, angle = left.split()
@@ -122,7 +124,7 @@ def pointings_from_cards(second, lines):
             calls += [f"hear {number} {value}", f"read {number} 0 {EMPTY}", f"confirm {number}"]
         calls.append(f"pointing {angle}")
         answers = almanac.answers(second, "card", calls)
-        if not answers[-1].startswith(f"{right} |"):
+        if without_sine(answers[-1].split()[0]) != without_sine(right.split()[0]):
             sys.exit(f"the second program has {answers[-1]}: {left} = {right}")
         found += zip(calls, answers)
     return found
@@ -143,11 +145,32 @@ def can_be_heard(left):
     return all(abs(int(value)) <= HEARD for value in left.split()[:-1])
 
 
+def without_sine(refusal):
+    """A refusal's number, one for all that hang on the sine: 0 for none, 7 below the horizon, 8 near the zenith, and 15 behind these."""
+    return "seen or not" if refusal in ("0", "7", "8", "15") else refusal
+
+
+def shot_without_angles(call, answer):
+    """What a call on a card answers; of a shot no more than its refusal and the card."""
+    returned, _, card = answer.partition(" |")
+    return f"{without_sine(returned.split()[0])} |{card}" if call == "shot" else answer
+
+
+def calls_as_they_are(second, lines):
+    """The calls of card.txt, with the second program's answers, which must be those of the file but for what hangs on the sine."""
+    calls = [call for call, _ in lines]
+    found = list(zip(calls, almanac.answers(second, "card", calls)))
+    for (call, answer), (_, older) in zip(found, lines):
+        if shot_without_angles(call, answer) != shot_without_angles(call, older):
+            sys.exit(f"the second program has {answer}: {call} = {older}")
+    return found
+
+
 def calls_and_shots(calls, shots):
     """The calls on the card as they stand, with a plain shot after every so many."""
     found, left = [], list(shots)
     for i, call in enumerate(calls, 1):
-        found.append(tuple(call))
+        found.append(call)
         if i % CALLS == 0 and left:
             found.append(left.pop(0))
     return found + left
@@ -163,7 +186,7 @@ def main(folder, second):
         + longitudes(vectors("longitude.txt"))
         + steps(vectors("parts.txt"))
         + suns(second)
-        + calls_and_shots(vectors("card.txt"), some_shots(vectors("shot.txt")))
+        + calls_and_shots(calls_as_they_are(second, vectors("card.txt")), some_shots(vectors("shot.txt")))
         + pointings_from_cards(second, vectors("pointing.txt"))
         + choices(vectors("choice.txt"))
     )
