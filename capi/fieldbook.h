@@ -1,7 +1,7 @@
 /* The field book for C: the functions of the static library libcapi.a (`rt staticlib capi`).
    Each is proved, and docs/PROMISES.md says what that means. They keep nothing between two calls, take any
-   numbers, write to no memory of the caller, and may be called by several threads at once. The choice reads
-   the two lists lent to it; the others read no memory of the caller either.
+   numbers, and may be called by several threads at once. The choice reads the two lists lent to it, and many
+   shots read one list and write to the other; the single shot and the pointing touch no memory of the caller.
 
    Header and library belong together. The linker does not compare how many numbers a function takes, and
    code compiled with the header of another version would hand over some of them in the wrong place: compile
@@ -73,6 +73,35 @@ struct fieldbook_shot_answer fieldbook_shot(int64_t year, int64_t month, int64_t
                                             int64_t minute, int64_t millisecond, int64_t dut1,
                                             int64_t latitude, int64_t longitude, int64_t body,
                                             int64_t delta_t);
+
+/* How many numbers a row of many shots has, those of a shot in the order above, year to delta_t; and how many
+   words its answer, those of a struct fieldbook_shot_answer. An array of these structs can be lent as the list
+   of words. */
+enum { FIELDBOOK_SHOT_NUMBERS = 11, FIELDBOOK_SHOT_WORDS = 5 };
+
+/* Many shots: one after the other as fieldbook_shot answers them, a refusal of its own for each row. A single
+   shot builds the table of the sine and throws it away again; this call builds it once, and a shot of many
+   takes two thirds of the time.
+
+   rows                the numbers of the shots, row after row; only read
+   rows_count          how many numbers: 11 times the rows
+   answers             where the words of the answers go, row after row
+   answers_count       how many words there is room for: 5 times the rows
+
+   Returns how many rows were answered: as many as there are whole rows of numbers and room for whole answers.
+   Words beyond their answers stay as they were. A pointer must be valid for as many numbers as its count says,
+   and is not used where that is 0; the two lists must not overlap, and no other thread may touch them during
+   the call.
+
+       int64_t rows[2][FIELDBOOK_SHOT_NUMBERS] = {
+           {1984, 7, 2, 14, 30, 0, 0, 1224000, -4230000, FIELDBOOK_SUN, 54184},
+           {1984, 7, 2, 14, 31, 0, 0, 1224000, -4230000, FIELDBOOK_SUN, 54184}};
+       struct fieldbook_shot_answer answers[2];
+       fieldbook_shots(rows[0], 2 * FIELDBOOK_SHOT_NUMBERS, (uint64_t *)answers, 2 * FIELDBOOK_SHOT_WORDS);
+       if (answers[1].refusal != FIELDBOOK_ANSWERED)
+           return answers[1].refusal;
+       set_out(answers[1].azimuth); */
+uint64_t fieldbook_shots(const int64_t *rows, size_t rows_count, uint64_t *answers, size_t answers_count);
 
 /* A pointing's answer. Check the refusal first: a refused pointing has no mark, and what stands for
    it is 0, which is also the azimuth of a mark due north. */

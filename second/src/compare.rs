@@ -158,14 +158,35 @@ pub fn compare_library<Q: Question>(
 /// Compares a library, asked in each of some ways, with vectors, lines `numbers = answer`, and
 /// returns how many there are; the error tells the first that is answered otherwise.
 pub fn compare_vectors<Q: Question>(file: &str, ways: &[Way<Q>]) -> Result<usize, String> {
-    let mut compared = 0;
+    each_vector::<Q>(file, |question, expected| all_answer(ways, &question, expected))
+}
+
+/// The same with this program's answers to the vectors' questions, where these are older than the
+/// rules.
+pub fn compare_asked<Q: Question>(
+    sine: &Sine,
+    file: &str,
+    ways: &[Way<Q>],
+) -> Result<usize, String> {
+    each_vector::<Q>(file, |question, _| {
+        let answer = Q::as_library(question.answer(sine));
+        all_answer(ways, &question, &answer_text(&answer))
+    })
+}
+
+/// Takes each question of vectors with its answer, and returns how many there are.
+fn each_vector<Q: Question>(
+    file: &str,
+    mut take: impl FnMut(Q, &str) -> Result<(), String>,
+) -> Result<usize, String> {
+    let mut taken = 0;
     for line in file.lines().filter(|line| !line.starts_with('#')) {
         let (given, expected) =
             line.split_once(" = ").ok_or_else(|| format!("{line}: no answer"))?;
         let question =
             asked_by_vector::<Q>(given.as_bytes()).map_err(|_| format!("{line}: malformed"))?;
-        all_answer(ways, &question, expected)?;
-        compared += 1;
+        take(question, expected)?;
+        taken += 1;
     }
-    Ok(compared)
+    Ok(taken)
 }

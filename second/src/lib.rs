@@ -15,6 +15,7 @@ pub mod fieldbook;
 pub mod frame;
 pub mod horizon;
 pub mod lines;
+pub mod many_shots;
 pub mod natural;
 pub mod parts;
 pub mod pointing;

@@ -44,6 +44,13 @@ extern "C" {
         delta_t: i64,
     ) -> ShotAnswer;
 
+    fn fieldbook_shots(
+        rows: *const i64,
+        rows_count: usize,
+        answers: *mut u64,
+        answers_count: usize,
+    ) -> u64;
+
     fn fieldbook_pointing(
         year: i64,
         month: i64,
@@ -71,6 +78,13 @@ extern "C" {
 pub fn shot(n: [i64; 11]) -> ShotAnswer {
     // SAFETY: the function is proved for all numbers and is lent no memory.
     unsafe { fieldbook_shot(n[0], n[1], n[2], n[3], n[4], n[5], n[6], n[7], n[8], n[9], n[10]) }
+}
+
+/// Many shots as the static library answers them: rows of eleven numbers, answers of five words.
+pub fn shots(rows: &[i64], answers: &mut [u64]) -> u64 {
+    // SAFETY: the function is proved for all lists, reads the one and writes the other, which is
+    // borrowed for it alone, and keeps neither pointer.
+    unsafe { fieldbook_shots(rows.as_ptr(), rows.len(), answers.as_mut_ptr(), answers.len()) }
 }
 
 /// The pointing as the static library answers it.

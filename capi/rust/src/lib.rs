@@ -112,16 +112,27 @@ fn accepted(number: u64) -> Result<(), Refusal> {
     })
 }
 
+/// The words of a shot's answer: its angles, or why there are none.
+fn answered(words: [u64; 5]) -> Result<ShotAngles, Refusal> {
+    let [refusal, azimuth, zenith_distance, hour_angle, longitude] = words;
+    accepted(refusal)?;
+    Ok(ShotAngles { azimuth, zenith_distance, hour_angle, longitude })
+}
+
 /// The shot: its angles, or why there are none.
 pub fn shot(numbers: &Numbers) -> Result<ShotAngles, Refusal> {
-    let answer = ffi::shot(numbers.fields());
-    accepted(answer.refusal)?;
-    Ok(ShotAngles {
-        azimuth: answer.azimuth,
-        zenith_distance: answer.zenith_distance,
-        hour_angle: answer.hour_angle,
-        longitude: answer.longitude,
-    })
+    let a = ffi::shot(numbers.fields());
+    answered([a.refusal, a.azimuth, a.zenith_distance, a.hour_angle, a.longitude])
+}
+
+/// Many shots, each with its own angles or refusal, in the order of their numbers. It builds the
+/// table of the sine once, where a single shot builds it for itself.
+pub fn shots(numbers: &[Numbers]) -> Vec<Result<ShotAngles, Refusal>> {
+    let rows: Vec<i64> = numbers.iter().flat_map(Numbers::fields).collect();
+    let mut words = vec![0; 5 * numbers.len()];
+    ffi::shots(&rows, &mut words);
+    let answers = words.chunks_exact(5);
+    answers.map(|words| answered(words.try_into().expect("five words"))).collect()
 }
 
 /// The pointing: the azimuth of a mark from north, clockwise, in units of 0.0001 second of arc, or
