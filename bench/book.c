@@ -1,8 +1,8 @@
-/* The shot by the book's static library. */
+/* The single shot by the book's static library. */
 #include "fieldbook.h"
 #include "harness.h"
 
-int64_t bench_shot(const int64_t n[11], int64_t angles[4])
+int64_t bench_shot(const int64_t n[NUMBERS], int64_t angles[WORDS - 1])
 {
     struct fieldbook_shot_answer a =
         fieldbook_shot(n[0], n[1], n[2], n[3], n[4], n[5], n[6], n[7], n[8], n[9], n[10]);

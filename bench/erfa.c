@@ -62,7 +62,7 @@ static void polaris(const struct instant *t, double *hour_angle, double *declina
     *hour_angle = eraEra00(t->ut1[0], t->ut1[1]) - ra;
 }
 
-int64_t bench_shot(const int64_t fields[11], int64_t angles[4])
+int64_t bench_shot(const int64_t fields[NUMBERS], int64_t angles[WORDS - 1])
 {
     struct instant t = instant_of(fields);
     double hour_angle, declination, azimuth, altitude, s = 0.0;

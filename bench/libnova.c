@@ -28,7 +28,7 @@ static struct ln_equ_posn place(int64_t body, double jd)
     return apparent;
 }
 
-int64_t bench_shot(const int64_t fields[11], int64_t angles[4])
+int64_t bench_shot(const int64_t fields[NUMBERS], int64_t angles[WORDS - 1])
 {
     struct ln_date date = {(int)fields[0], (int)fields[1], (int)fields[2], (int)fields[3],
                            (int)fields[4], (double)(fields[5] + fields[6]) / 1000.0};

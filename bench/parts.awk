@@ -6,7 +6,7 @@
 #        lists: how many series a shot sums; rows: how many arguments it has
 #
 # How each is found, and when not:
-#   angles      calls of sine::angle, three a shot. Another number of calls means that the compiler inlined some: not found
+#   angles      calls of vector_angle::angle, three a shot. Another number of calls means that the compiler inlined some: not found
 #   sums        calls of the sums of `series` from outside that crate, one for each list, else not found. What is inlined into a sum
 #               counts with it, the sines above all
 #   arguments   their loop is inlined into `shot`: the instructions of that function which run exactly once for each row. Not found
@@ -33,7 +33,7 @@ FNR == 1 { sign = NR == 1 ? -1 : 1 }
     getline
     cost = sign * $3
     if (callee == shot) enter("shot", number, cost)
-    if (callee == "sine::angle") enter("angles", number, cost)
+    if (callee == "vector_angle::angle") enter("angles", number, cost)
     if (callee ~ /^series::.*sum$/ && caller !~ /^series::/) enter("sums", number, cost)
     next
 }

@@ -25,13 +25,6 @@ below-all p zero i t h = absurd (not-suc-le-zero h)
 below-all p (suc n) i t h =
     ⊎-elim (λ e. rw e (and-l (p n) (allBelow p n) t)) (λ l. below-all p n i (and-r (p n) (allBelow p n) t) l) (eq-or-lt-of-le (le-of-suc-le-suc h))
 
--- f is at most g at every number below n
-abbrev pub everyLe : (ℕ → ℕ) → (ℕ → ℕ) → ℕ → Bool
-everyLe f g n = allBelow (λ k. leb (f k) (g k)) n
-
-pub every-le : (f g : ℕ → ℕ) (n : ℕ) → T (everyLe f g n) → (k : ℕ) → k < n → f k ≤ g k
-every-le f g n t k h = leb→le (f k) (g k) (below-all (λ k. leb (f k) (g k)) n k t h)
-
 -- ---- several pairs, tested together: the first of each is at most the second
 abbrev pub allLe : List (ℕ × ℕ) → Bool
 allLe [] = true

@@ -2,7 +2,6 @@
 use mathlib.Core.List.{List, [], _∷_}
 use Prim.Native.Nat.{ℕ, _+_, _*_}
 use lib.IntN.{ℤ, natAbs}
-use Rattle.sine_table.specs.Table.{R}
 use Rattle.rotation.specs.Rotation.{rotation1, rotation2, rotation3}
 
 -- the sum of the squares of the components

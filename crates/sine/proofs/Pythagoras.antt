@@ -12,7 +12,7 @@ use Rattle.exact.proofs.Division.{Rounds, rounds}
 use Rattle.exact.proofs.Products.{twice, root-le}
 use Rattle.sine_table.specs.Step.{step}
 use Rattle.sine_table.specs.Table.{R, entryAt, stepCount}
-use Rattle.sine_table.proofs.TableRule.{StepLaw, step-law}
+use Rattle.sine_table.proofs.TableRule.{squaresBelow, squaredChord, StepLaw, step-law}
 use Rattle.sine.specs.Sine.{sinQuadrant, Sin, Cos}
 use Rattle.sine.specs.SineContract.{circleLeast, circleMost, OnCircle}
 use Rattle.sine.proofs.Quadrant.{mix, sin-at, in-interval}
@@ -53,12 +53,12 @@ module _ (n m u v : ℕ) (parts : u + v ≡ step) (mirror : suc (n + m) ≡ step
   least : circleLeast ≤ S * S + C * C
   least =
       room (S * S + C * C) (S + C) _
-      (below step u v (entryAt n) (entryAt (suc n)) (entryAt m) (entryAt (suc m)) S C (lit< tt) parts S-rounds C-rounds (R * R - 1_308_000_000)
+      (below step u v (entryAt n) (entryAt (suc n)) (entryAt m) (entryAt (suc m)) S C (lit< tt) parts S-rounds C-rounds (R * R - squaresBelow)
       (entryAt (suc n) - entryAt n) (entryAt (suc m) - entryAt m) (sym (add-sub-of-le (here .rises))) (sym (add-sub-of-le (there .rises)))
       (omega (arith, here .least)) (omega (arith, there .least)))
       (sum-le S C most) (here .chord)
     where
-      room : (W T D : ℕ) → 4 * (R * R - 1_308_000_000) ≤ 4 * W + 4 * T + 2 + D → T ≤ 1_414_300_000 → D ≤ 84_617_000_000 → circleLeast ≤ W
+      room : (W T D : ℕ) → 4 * (R * R - squaresBelow) ≤ 4 * W + 4 * T + 2 + D → T ≤ 1_414_300_000 → D ≤ squaredChord → circleLeast ≤ W
       room W T D h k p = omega arith
 
   interval-at : (a : ℕ) → a ≡ step * n + v → OnCircle (sinQuadrant a) (sinQuadrant (Q - a))

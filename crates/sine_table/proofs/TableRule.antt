@@ -1,5 +1,6 @@
 -- The entries of the table: what its list holds at each index, and what holds of each step from an entry to the next.
 use mathlib.Core.Path.{_≡_, refl, ap, _∙_, sym}
+use mathlib.Core.Bool.{Bool}
 use mathlib.Core.List.{List, [], _∷_}
 use Prim.Native.Nat.{ℕ, zero, suc, _+_, _-_, _*_, _/_, _≤_, _<_}
 use native.Mathlib.Nat.{le-of-suc-le-suc, not-suc-le-zero, add-zero, zero-add, add-suc, suc-add}
@@ -37,6 +38,17 @@ entry-rounds n = rounds (R * polyNum (step * n)) den-pos
 
 -- ---- a step of the table
 
+-- at an entry, by how much the squares of a sine and a cosine with both added are above R² at most (2.7036·R), and the squares alone below it (1.3075·R);
+-- and how large the squared chord of a step is at most (84.6166·R)
+abbrev pub squaresAbove : ℕ
+squaresAbove = 2_704_000_000
+
+abbrev pub squaresBelow : ℕ
+squaresBelow = 1_308_000_000
+
+abbrev pub squaredChord : ℕ
+squaredChord = 84_617_000_000
+
 -- of a step from the entry e to e′, and of its mirror in the quadrant from f to f′: at its start the sine is e and the cosine f′, at its end e′ and f
 pub record StepLaw (e e′ f f′ : ℕ) : Type 0 where
   pub rises : e ≤ e′
@@ -44,18 +56,20 @@ pub record StepLaw (e e′ f f′ : ℕ) : Type 0 where
   pub gentle : e′ ≤ e + step / 2
   -- step·(e + f′) is at most 2.95 times f′·e′ − e·f (2.92 times, at 45°)
   pub steep : 20 * (step * (e + f′)) + 59 * (e * f) ≤ 59 * (f′ * e′)
-  -- sine and cosine are near the circle: how far their squares are from R², with and without what roundings add, and the squared chord
-  pub most : e * e + f′ * f′ + e + f′ ≤ R * R + 2_704_000_000
-  pub least : R * R ≤ e * e + f′ * f′ + 1_308_000_000
-  pub chord : (e′ - e) * (e′ - e) + (f′ - f) * (f′ - f) ≤ 84_617_000_000
+  pub most : e * e + f′ * f′ + e + f′ ≤ R * R + squaresAbove
+  pub least : R * R ≤ e * e + f′ * f′ + squaresBelow
+  pub chord : (e′ - e) * (e′ - e) + (f′ - f) * (f′ - f) ≤ squaredChord
 
 -- the same as pairs, for antt to compute of every step
 pairs : ℕ → ℕ → ℕ → ℕ → List (ℕ × ℕ)
 pairs e e′ f f′ =
-    (e, e′) ∷ (e′, e + step / 2) ∷ (20 * (step * (e + f′)) + 59 * (e * f), 59 * (f′ * e′)) ∷ (e * e + f′ * f′ + e + f′, R * R + 2_704_000_000)
-    ∷ (R * R, e * e + f′ * f′ + 1_308_000_000) ∷ ((e′ - e) * (e′ - e) + (f′ - f) * (f′ - f), 84_617_000_000) ∷ []
+    (e, e′) ∷ (e′, e + step / 2) ∷ (20 * (step * (e + f′)) + 59 * (e * f), 59 * (f′ * e′)) ∷ (e * e + f′ * f′ + e + f′, R * R + squaresAbove)
+    ∷ (R * R, e * e + f′ * f′ + squaresBelow) ∷ ((e′ - e) * (e′ - e) + (f′ - f) * (f′ - f), squaredChord) ∷ []
 
-all-steps : T (allBelow (λ n. allLe (pairs (entryAt n) (entryAt (suc n)) (entryAt (stepCount - suc n)) (entryAt (stepCount - n)))) stepCount)
+abbrev stepTest : ℕ → Bool
+stepTest n = allLe (pairs (entryAt n) (entryAt (suc n)) (entryAt (stepCount - suc n)) (entryAt (stepCount - n)))
+
+all-steps : T (allBelow stepTest stepCount)
 unfolding pairs entryBy nearestDivℕ polyNum polyDen term cofactor arc whole
 all-steps = tt
 
@@ -70,7 +84,7 @@ pub step-law : (n m : ℕ) → suc (n + m) ≡ stepCount → StepLaw (entryAt n)
 step-law n m e =
     let k : stepCount - n ≡ suc m = omega arith in
     let l : stepCount - suc n ≡ m = omega arith in
-    law _ _ _ _ (rw (k, l) at (below-all (λ n. allLe (pairs (entryAt n) (entryAt (suc n)) (entryAt (stepCount - suc n)) (entryAt (stepCount - n)))) stepCount n all-steps (omega arith)))
+    law _ _ _ _ (rw (k, l) at (below-all stepTest stepCount n all-steps (omega arith)))
 
 -- ---- the order
 pub entry-climbs : (m n : ℕ) → m ≤ n → n ≤ stepCount → entryAt m ≤ entryAt n

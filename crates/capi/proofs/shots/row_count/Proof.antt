@@ -1,4 +1,3 @@
-use mathlib.Core.Path.{sym}
 use borrow.Author.Tests.{lt-ltb, le-ltb}
 use Rattle.capi.proofs.shots.row_count.Statement.{statement}
 use Rattle.capi.proofs.shots.row_count.Tie as tie

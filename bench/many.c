@@ -1,0 +1,9 @@
+/* Many shots in one call of the book's static library. */
+#include "fieldbook.h"
+#include "harness.h"
+
+void bench_shots(const int64_t rows[][NUMBERS], size_t count, int64_t answers[][WORDS])
+{
+    fieldbook_shots(&rows[0][0], count * FIELDBOOK_SHOT_NUMBERS, (uint64_t *)answers,
+                    count * FIELDBOOK_SHOT_WORDS);
+}
