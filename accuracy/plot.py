@@ -11,6 +11,7 @@ UNITS = 10_000  # to a second of arc
 MILLIMETRES = 900_000 * math.pi / 648_000  # that a second of arc is at 900 m
 WIDTH, HEIGHT, LEFT, RIGHT, TOP, BETWEEN = 900, 240, 70, 130, 110, 76  # of a panel, and around it, in pixels
 FIRST_YEAR, LAST_YEAR = 1976, 2050
+ANGLES = [("Sun's apparent longitude", 1, 3), ("Sun's azimuth", 1, 0), ('Azimuth of Polaris', 2, 0)]  # with body and place
 # How the answers with ΔT are drawn and those without: told apart by hue, by brightness, and as a solid and a broken line.
 Style = namedtuple('Style', 'name colour line dot')
 STYLES = [
@@ -98,10 +99,9 @@ def main():
     given, without, erfa = read_book(sys.argv[2]), read_book(sys.argv[3]), read_erfa(sys.argv[4])
     if not len(shots) == len(given) == len(without) == len(erfa):
         sys.exit('not every shot has its answers')
-    angles = [("Sun's apparent longitude", 1, 3), ("Sun's azimuth", 1, 0), ('Azimuth of Polaris', 2, 0)]
     print(f'{"seconds of arc":45}{"with ΔT - ERFA":>16}{"without - ERFA":>16}{"with - without":>16}')
     out, over, titles = legend(), [], []
-    for i, (name, body, angle) in enumerate(angles):
+    for i, (name, body, angle) in enumerate(ANGLES):
         parts = [series(shots, body, angle, a, b) for a, b in ((given, erfa), (without, erfa), (given, without))]
         for word, *row in zip(('largest', 'root mean square'), *(figures(p) for p in parts)):
             print(f'{name + ", " + word:45}{row[0]:16.2f}{row[1]:16.2f}{row[2]:16.4f}')
@@ -110,10 +110,11 @@ def main():
         titles.append(f'{name}: with and without {apart[0]:.2g}″ to {apart[-1]:.2g}″ apart')
         out += panel(titles[-1], parts[:2], TOP + i * (HEIGHT + BETWEEN))
     print('\nmillimetres over 900 m', *over[2:], '', *titles, '', sep='\n')
-    size = (LEFT + WIDTH + RIGHT, TOP + len(angles) * (HEIGHT + BETWEEN) - BETWEEN + 40)
+    size = (LEFT + WIDTH + RIGHT, TOP + len(ANGLES) * (HEIGHT + BETWEEN) - BETWEEN + 40)
     head = f'<svg xmlns="http://www.w3.org/2000/svg" viewBox="0 0 {size[0]} {size[1]}" font-family="sans-serif" font-size="18">'
     with open(sys.argv[5], 'w') as picture:
         picture.write('\n'.join([head, '<rect width="100%" height="100%" fill="#fff"/>'] + out + ['</svg>']) + '\n')
 
 
-main()
+if __name__ == '__main__':
+    main()
