@@ -1,5 +1,5 @@
 -- One bound over all angles and all axes: a rotation enlarges the squared length of a direction by 7.408·R + 3 at most, where that is at most 2·R². So ten rotations
--- in a row, from a direction of length R, leave it shorter than R + 40. It rests on `pythagoras` of the sine: Sin² + Cos² is at most R² + 2.704·R.
+-- in a row, from a direction of length R, leave it shorter than R + 38. It rests on `pythagoras` of the sine: Sin² + Cos² is at most R² + 2.704·R.
 use mathlib.Core.Path.{_≡_, refl, sym, ap, ap₂, _∙_}
 use mathlib.Core.List.{List, [], _∷_}
 use Prim.Native.Nat.{ℕ, _+_, _*_, _≤_, _<_}
