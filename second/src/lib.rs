@@ -11,6 +11,7 @@ pub mod compare;
 pub mod counts;
 pub mod digits;
 pub mod exact;
+pub mod extremes;
 pub mod fieldbook;
 pub mod frame;
 pub mod horizon;

@@ -7,6 +7,7 @@ use second::compare::{
     outcomes_of_sessions, random_batch, random_lines, random_runs, random_sessions,
 };
 use second::counts::{Counts, Outcome, LEAST};
+use second::extremes::extremes;
 use second::lines::joined;
 use second::polynomial::Polynomial;
 use second::question::{BatchQuestion, Choice, Pointing, Shot};
@@ -14,7 +15,7 @@ use second::random_calls::{random_calls, Start};
 use second::refusal::Refusal;
 use second::replay;
 use second::session;
-use second::sine::Sine;
+use second::sine::{Sine, STEPS};
 use std::error::Error;
 use std::io::{self, BufRead, Write};
 use std::ops::RangeInclusive;
@@ -38,6 +39,7 @@ without input:
   random-pointings SEED COUNT lines of twelve numbers
   random-lines SEED COUNT     the lines of a session, good and damaged
   random-calls START SEED COUNT   calls on cards, each from a START, fresh or old
+  sine-extremes               how far Sin is from R * P, Sin^2 + Cos^2 from R^2 (a minute)
   bench-shots                 the shots that bench times, as lines of eleven numbers
   bench COUNT [sun|polaris]   nanoseconds per shot, of both bodies or one
   compare-shots SEED COUNT PROGRAM...     PROGRAM's answers to random-shots with these
@@ -76,6 +78,7 @@ fn dispatch(words: &[&str]) -> Done {
         ["choice"] => each_vector(|line| replay::question_line::<Choice>(&sine, line)),
         ["card"] => each_vector(|line| replay::card_line(&sine, &mut card, line)),
         ["count-refusals"] => count_refusals(),
+        ["sine-extremes"] => print_extremes(&sine, &polynomial),
         ["random-shots", seed, count] => {
             print(&random_batch::<Shot>(&sine, seed.parse()?, count.parse()?))
         }
@@ -137,6 +140,15 @@ fn each_vector(mut answer: impl FnMut(&[u8]) -> Result<String, Refusal>) -> Done
         }
         format!("{text} = {}", answer(&line[..end]).unwrap_or_else(replay::refused))
     })
+}
+
+/// Prints the extremes of the table sine over the whole quadrant, and the angles at which they are.
+fn print_extremes(sine: &Sine, polynomial: &Polynomial) -> Done {
+    let found = extremes(sine, polynomial, 0..STEPS as i64);
+    println!("|Sin - R P|, in thousandths: {} at {}", found.farthest.value, found.farthest.angle);
+    println!("Sin^2 + Cos^2 - R^2, least: {} at {}", found.least.value, found.least.angle);
+    println!("Sin^2 + Cos^2 - R^2, most: {} at {}", found.most.value, found.most.angle);
+    Ok(())
 }
 
 /// Prints how often each refusal stands in standard input.
