@@ -1,4 +1,5 @@
 // The shot: where a body stands; and many shots in one call, document 02, request 5.
+use card::FIELDS;
 use fieldbook::Outcome;
 use sine_table::SineTable;
 ghost use mathlib.Core.Path.{_≡_};
@@ -11,9 +12,7 @@ ghost use Rattle.fieldbook.specs.Shot.{numbersOf, shotValues, ShotReduced, shot
 ghost use Rattle.capi.specs.Interface.{numbers, shotAnswerValues};
 ghost use Rattle.capi.specs.Rows.{wordCount, shotWords, rowCount, answersTo};
 
-// How many numbers a row of many shots has, and how many words its answer.
-const NUMBERS: usize = 11;
-
+// How many words the answer to a row of many shots has.
 const WORDS: usize = 5;
 
 // What a shot answers, laid out as in C: the refusal's number, 0 for none, and azimuth, zenith distance, hour angle and s, in units of
@@ -109,13 +108,13 @@ fn answer_row(t: &SineTable, rows: &[i64], answers: &mut [u64])
 fn row_count(rows: &[i64], answers: &[u64]) -> usize
     ensures { λ r. ⌜ r ≡ rowCount (now (rows .entry)) (now (answers .entry)) ⌝ }
 {
-    let asked = rows.len() / NUMBERS;
+    let asked = rows.len() / FIELDS;
     let room = answers.len() / WORDS;
     if asked < room { asked } else { room }
 }
 
-// The shots of all rows of eleven numbers, the answers in rows of five words, with one table of the sine for all: how many were answered,
-// by what there are numbers and room for. What no answer takes of `answers` stays as it was.
+// The shots of rows of eleven numbers, the answers in rows of five words, with one table of the sine for all of them. As many rows are
+// answered as there are numbers and room for, and this count is returned; words that no answer takes stay as they were.
 #[no_mangle]
 pub extern "C" fn fieldbook_shots(rows: &[i64], answers: &mut [u64]) -> u64
     ensures { λ r. ⌜ r ≡ rowCount (now (rows .entry)) (now (answers .entry)) ⌝ }
@@ -124,7 +123,7 @@ pub extern "C" fn fieldbook_shots(rows: &[i64], answers: &mut [u64]) -> u64
     let t = sine_table::table();
     let count = row_count(rows, answers);
     for i in 0..count {
-        answer_row(&t, &rows[NUMBERS * i..], &mut answers[WORDS * i..]);
+        answer_row(&t, &rows[FIELDS * i..], &mut answers[WORDS * i..]);
     }
     count as u64
 }

@@ -105,25 +105,19 @@ module _ (x y n s c p q : ℕ) (e : IsStep n s c p q) (a : Among (startPasses x 
   slope-some = omega (arith, slope-is, ends)
 
   -- the law of the table's step, and of the step mirrored at the middle of the quadrant, where sines and cosines are exchanged
-  step-here : StepLaw s (s + p) (c - q) c
-  step-here =
+  steps : StepLaw s (s + p) (c - q) c × StepLaw (c - q) c s (s + p)
+  steps =
       let low = below in
+      let m = stepCount - n - 1 in
       let next : n + 1 ≡ suc n = omega arith in
-      let last : suc (stepCount - n - 1) ≡ stepCount - n = omega arith in
-      rw (next-cosine, e .next-sine, e .sine, e .cosine, next) (rw last at (step-law n (stepCount - n - 1) (omega arith)))
-
-  step-there : StepLaw (c - q) c s (s + p)
-  step-there =
-      let low = below in
-      let next : n + 1 ≡ suc n = omega arith in
-      let last : suc (stepCount - n - 1) ≡ stepCount - n = omega arith in
-      rw (next-cosine, e .next-sine, e .sine, e .cosine, next) (rw last at (step-law (stepCount - n - 1) n (omega arith)))
+      let last : suc m ≡ stepCount - n = omega arith in
+      rw (next-cosine, e .next-sine, e .sine, e .cosine, next) (rw last at (step-law n m (omega arith)), rw last at (step-law m n (omega arith)))
 
   -- the slope is at most half the step times x + y, and more than a third of it
   pub slope-most : slope ≤ (x + y) * (step / 2)
   slope-most =
-      let rise : p ≤ step / 2 = omega (arith, step-here .gentle) in
-      let fall : q ≤ step / 2 = omega (arith, step-there .gentle, down) in
+      let rise : p ≤ step / 2 = omega (arith, steps .0 .gentle) in
+      let fall : q ≤ step / 2 = omega (arith, steps .1 .gentle, down) in
       omega (arith, mul-le-mul-left x rise, mul-le-mul-left y fall)
 
   slope-least : 20 * (step * (x + y)) ≤ 59 * slope
@@ -133,7 +127,7 @@ module _ (x y n s c p q : ℕ) (e : IsStep n s c p q) (a : Among (startPasses x 
       let some : 0 < s′ = ⊎-elim (λ z. absurd (omega (arith, ends, ap (λ (k : ℕ). x * k) z))) (λ k. k) (eq-zero-or-pos s′) in
       let d = c * s′ - s * c′ in
       rw slope-is
-      (both step x y s c s′ c′ gap lag d ahead behind (omega (arith, step-here .steep)) (omega (arith, step-there .steep)) (omega (arith, step-here .steep)) (omega (arith, step-there .steep)))
+      (both step x y s c s′ c′ gap lag d ahead behind (omega (arith, steps .0 .steep)) (omega (arith, steps .1 .steep)) (omega (arith, steps .0 .steep)) (omega (arith, steps .1 .steep)))
 
   -- both lines, r units into the step, times the step
   abbrev rising : ℕ → ℕ
