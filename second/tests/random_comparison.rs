@@ -7,6 +7,7 @@ use second::compare::{
     random_runs, random_sessions, Way,
 };
 use second::counts::{Counts, Outcome, LEAST};
+use second::many_shots::compare_many_shots;
 use second::question::{BatchQuestion, Choice, LibraryAnswer, Pointing, Question, Shot};
 use second::random_calls::{random_calls, Start};
 use second::session;
@@ -38,6 +39,44 @@ fn libraries_reach_every_outcome() {
     reaches_every_outcome::<Shot>();
     reaches_every_outcome::<Pointing>();
     reaches_every_outcome::<Choice>();
+}
+
+/// The comparison of many shots with a library that works them one by one, but for one change of
+/// the words behind all answers and of the count.
+fn changed_behind(change: impl Fn(&[i64], &mut [u64], &mut u64)) -> Result<Counts, String> {
+    let sine = Sine::new();
+    let library = |rows: &[i64], words: &mut [u64]| {
+        let mut answered = 0;
+        for (row, words) in rows.chunks_exact(11).zip(words.chunks_exact_mut(5)) {
+            let shot = Shot::from_numbers(row).expect("eleven numbers");
+            let (refusal, angles) = Shot::as_library(shot.answer(&sine));
+            words[0] = refusal;
+            words[1..].copy_from_slice(&angles);
+            answered += 1;
+        }
+        change(rows, &mut words[5 * answered as usize..], &mut answered);
+        answered
+    };
+    compare_many_shots(&sine, (1, COUNT), &library)
+}
+
+#[test]
+fn many_shots_reach_every_outcome() {
+    let counts = changed_behind(|_, _, _| {}).unwrap();
+    assert_eq!(counts.all_reached(&Shot::outcomes(), LEAST), Ok(()));
+    assert!(counts.total() >= COUNT);
+}
+
+#[test]
+fn many_shots_that_differ_are_found() {
+    let room_cleared = changed_behind(|_, behind, _| behind.fill(0));
+    assert!(room_cleared.is_err());
+    let left_over_counted = changed_behind(|rows, _, answered| {
+        *answered += u64::from(rows.len() % 11 != 0);
+    });
+    assert!(left_over_counted.is_err());
+    let all_rows_counted = changed_behind(|rows, _, answered| *answered = rows.len() as u64 / 11);
+    assert!(all_rows_counted.is_err());
 }
 
 #[test]
