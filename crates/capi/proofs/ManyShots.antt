@@ -1,32 +1,21 @@
 -- Rows of many shots: they lie inside their lists, and the answer to one row more.
 use mathlib.Core.Path.{_≡_, refl, ap, _∙_}
-use mathlib.Core.Bool.{Bool, true, false, cond}
 use mathlib.Core.List.{List, _++_}
-use Prim.Native.Nat.{ℕ, zero, suc, _+_, _-_, _*_, _/_, _≤_}
-use native.Mathlib.Nat.{le-refl}
+use Prim.Native.Nat.{ℕ, zero, suc, _+_, _-_, _*_, _≤_}
 use native.Mathlib.Numerals.{add-one}
 use native.Mathlib.Omega.{arith}
-use lib.Dec.{ltb}
 use lib.IntN.{ℤ}
 use lib.ListN.{length, take, drop, length-append, length-drop}
 use lib.Seq.{take-at, drop-append-add, drop-drop, take-all}
-use borrow.Author.Tests.{ltb-true, ltb-false}
 use borrow.Rule.Slice.PartMut.{putMid}
 use Rattle.digits.proofs.Lists.{put-tail}
 use Rattle.card.specs.Fields.{fieldCount}
 use Rattle.fieldbook.specs.Shot.{numbersOf, shot}
 use Rattle.capi.specs.Rows.{shotWords, wordCount, rowCount, answersTo}
 
--- ---- the fewer of two
-fewer : (a b : ℕ) → (cond (ltb a b) a b ≤ a) × (cond (ltb a b) a b ≤ b)
-fewer a b = by (ltb a b) refl
-  where
-    by : (t : Bool) → ltb a b ≡ t → (cond t a b ≤ a) × (cond t a b ≤ b)
-    by true e = (le-refl a, omega (arith, ltb-true a b e))
-    by false e = (omega (arith, ltb-false a b e), le-refl b)
-
+-- ---- they lie inside their lists
 pub within : (rows : List ℤ) (answers : List ℕ) → (fieldCount * rowCount rows answers ≤ length rows) × (wordCount * rowCount rows answers ≤ length answers)
-within rows answers = let h = fewer (length rows / fieldCount) (length answers / wordCount) in (omega (arith, h .0), omega (arith, h .1))
+within rows answers = (omega arith, omega arith)
 
 -- ---- the words of the first k rows
 length-answers : (k : ℕ) (rows : List ℤ) → length (answersTo k rows) ≡ wordCount * k

@@ -1,9 +1,7 @@
 -- Document 02, request 5: many shots in one call (RULES.md, "Many shots"). The numbers of the shots stand one row after the other in one list, the words of the
 -- answers in another.
-use mathlib.Core.Bool.{cond}
 use mathlib.Core.List.{List, [], _∷_, _++_}
-use Prim.Native.Nat.{ℕ, zero, suc, _*_, _/_}
-use lib.Dec.{ltb}
+use Prim.Native.Nat.{ℕ, zero, suc, _*_, _/_, min}
 use lib.IntN.{ℤ}
 use lib.ListN.{length, drop}
 use Rattle.card.specs.Fields.{fieldCount}
@@ -18,10 +16,7 @@ wordCount = 5
 
 -- how many whole rows of numbers there are, and of room for their words: the fewer of the two
 abbrev pub rowCount : List ℤ → List ℕ → ℕ
-rowCount rows answers =
-    let asked = length rows / fieldCount in
-    let room = length answers / wordCount in
-    cond (ltb asked room) asked room
+rowCount rows answers = min (length rows / fieldCount) (length answers / wordCount)
 
 -- the words of the first k rows; row i begins where i rows end
 unfoldable pub answersTo : ℕ → List ℤ → List ℕ
