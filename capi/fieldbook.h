@@ -1,7 +1,9 @@
 /* The field book for C: the functions of the static library libcapi.a (`rt staticlib capi`).
-   Each is proved, and docs/PROMISES.md says what that means. They keep nothing between two calls, take any
-   numbers, and may be called by several threads at once. The choice reads the two lists lent to it, and many
-   shots read one list and write to the other; the single shot and the pointing touch no memory of the caller.
+   Each is proved, and docs/PROMISES.md says what that means. They keep nothing between two calls, not even a
+   card, whose words the caller keeps; they take any numbers, and may be called by several threads at once. Of
+   the caller's memory they touch what is lent to them and no more. The choice reads its two lists, many shots
+   read one list and write to the other, the card's calls read and write its words, a reading writes to a buffer
+   besides, and the shot from a card only reads; the single shot and the pointing are lent nothing.
 
    Header and library belong together. The linker does not compare how many numbers a function takes, and
    code compiled with the header of another version would hand over some of them in the wrong place: compile
@@ -20,6 +22,8 @@ extern "C" {
    several apply, a call gives the first of this list. */
 enum fieldbook_refusal {
     FIELDBOOK_ANSWERED = 0,
+    FIELDBOOK_NO_CARD = 100,     /* the words lent are no card; a number of this interface alone */
+    FIELDBOOK_NOT_CONFIRMED = 1, /* a shot from a card with a field that is not confirmed */
     FIELDBOOK_NO_DATE = 2,       /* no such date, or not in 1976 to 2049 */
     FIELDBOOK_NO_TIME = 3,       /* hour, minute or millisecond not allowed */
     FIELDBOOK_NO_DUT1 = 4,       /* DUT1 out of range */
@@ -29,7 +33,15 @@ enum fieldbook_refusal {
     FIELDBOOK_BELOW_HORIZON = 7, /* the body is below the horizon */
     FIELDBOOK_NEAR_ZENITH = 8,   /* the body is too near the zenith for an azimuth */
     FIELDBOOK_NO_LIST = 16,      /* a list of results empty or longer than 64 */
-    FIELDBOOK_NO_ANGLE = 15      /* a horizontal angle or a result not in 0 to 12,959,999,999 */
+    FIELDBOOK_NO_ANGLE = 15,     /* a horizontal angle or a result not in 0 to 12,959,999,999 */
+
+    /* of the card's other calls, which meet none of the above but 100 */
+    FIELDBOOK_NO_FIELD = 9,        /* field not 1 to 11 */
+    FIELDBOOK_EMPTY_FIELD = 10,    /* nothing to read: the field is empty */
+    FIELDBOOK_NO_ROOM = 11,        /* the text does not fit into the buffer from the place on */
+    FIELDBOOK_NOT_READ = 12,       /* nothing to confirm: the field is not in the state read */
+    FIELDBOOK_TOO_LARGE = 13,      /* a number not in -9,999,999 to 9,999,999 */
+    FIELDBOOK_NOTHING_TO_UNDO = 18 /* nothing heard since the card was fresh or the last undo */
 };
 
 /* A shot's answer, its angles in units of 0.0001 second of arc, 0 to 12,959,999,999. Check the
@@ -152,6 +164,83 @@ struct fieldbook_choice_answer {
        set_out_all(narrower, a.count); */
 struct fieldbook_choice_answer fieldbook_choice(const int64_t *first, size_t first_count,
                                                 const int64_t *second, size_t second_count);
+
+/* The card: the eleven numbers of a shot, each heard, read out and confirmed before the shot takes it. It is 25
+   words, which the caller keeps and lends; a copy of them is another card.
+
+   word 2(f - 1)       state of field f, 1 to 11, the fields in the order of a shot's numbers above, year to
+                       delta_t: 0 empty, 1 heard, 2 read, 3 confirmed
+   word 2(f - 1) + 1   its number, -9,999,999 to 9,999,999; 0 where it is empty
+   word 22             the field whose latest accepted hearing an undo takes back, 1 to 11; 0 where there is
+                       nothing to undo
+   words 23, 24        that field's state and number before that hearing, by the same codes; 0 and 0 where there
+                       is nothing to undo
+
+   Words that are not of this kind, or not 25, are no card: every call tests that before all else (to make a card
+   fresh, the count alone), refuses them by FIELDBOOK_NO_CARD, and writes nothing. On a card each call does what
+   is said below, and one that is refused leaves card and buffer as they were.
+
+   As long as these functions alone write the words, from fieldbook_card_fresh on, every confirmed number was
+   heard for its field, read out and confirmed, and any other hearing for that field since was refused or undone.
+   More cannot be promised of memory that is the caller's: a program that writes to the words itself can put a
+   confirmed number there that nobody read out, and no call would notice. That the text of a reading reaches an
+   ear is up to the caller as well.
+
+   A pointer must be valid for as many words or bytes as its count says, and is not used where that is 0. Card
+   and buffer must not overlap, and no other thread may touch them during the call; shots from one card, which
+   only read it, may run at once.
+
+       int64_t card[FIELDBOOK_CARD_WORDS];
+       uint8_t text[15];
+       fieldbook_card_fresh(card, FIELDBOOK_CARD_WORDS);
+       ...
+       uint64_t refusal = fieldbook_card_hear(card, FIELDBOOK_CARD_WORDS, 5, 50);
+       if (refusal != FIELDBOOK_ANSWERED)
+           return refusal;
+       struct fieldbook_read_answer a =
+           fieldbook_card_read(card, FIELDBOOK_CARD_WORDS, 5, text, sizeof text, 0);
+       if (a.refusal != FIELDBOOK_ANSWERED)
+           return a.refusal;
+       speak(text, a.length);
+       if (agreed())
+           return fieldbook_card_confirm(card, FIELDBOOK_CARD_WORDS, 5);
+       return fieldbook_card_undo(card, FIELDBOOK_CARD_WORDS); */
+enum { FIELDBOOK_CARD_WORDS = 25 };
+
+/* A fresh card: every field is empty, and there is nothing to undo. What stood in the words before is not
+   looked at, only their count. Returns 0, or 100 with no word written. */
+uint64_t fieldbook_card_fresh(int64_t *card, size_t card_count);
+
+/* Hears a number for a field: the field is heard with it, whatever it was before, which is what an undo now
+   puts back. Whether the number is in the field's range is for a shot to test. Returns 0, or 100, 9 or 13 of
+   enum fieldbook_refusal. */
+uint64_t fieldbook_card_hear(int64_t *card, size_t card_count, int64_t field, int64_t number);
+
+/* A reading's answer. */
+struct fieldbook_read_answer {
+    uint64_t refusal; /* 100, 9, 10 or 11 of enum fieldbook_refusal, 0 where the text is written */
+    uint64_t length;  /* of the text, in bytes, 1 to 15; 0 with a refusal */
+};
+
+/* Reads a field out: writes its number into the buffer from a place on, 0 being the buffer's front, as it is to
+   be spoken, and makes a heard field read; one that is read or confirmed is written again and stays so. The text
+   is the decimal digits with a space between any two, "- " before them where the number is negative: 2042 is
+   "2 0 4 2", -75 is "- 7 5". No NUL is written behind it, and the buffer's other bytes stay. 15 bytes are room
+   for any number of a card. */
+struct fieldbook_read_answer fieldbook_card_read(int64_t *card, size_t card_count, int64_t field,
+                                                 uint8_t *buffer, size_t buffer_count, size_t place);
+
+/* Confirms a field that is read; it keeps its number. Returns 0, or 100, 9 or 12 of enum fieldbook_refusal. */
+uint64_t fieldbook_card_confirm(int64_t *card, size_t card_count, int64_t field);
+
+/* Undoes the latest accepted hearing: its field gets back the state and the number it had before, also where it
+   was read or confirmed since; the other fields stay as they are now. Then there is nothing to undo until the
+   next accepted hearing. Returns 0, or 100 or 18 of enum fieldbook_refusal. */
+uint64_t fieldbook_card_undo(int64_t *card, size_t card_count);
+
+/* The shot with the numbers of a card, which is only read: refused by 100, then by 1 unless every field is
+   confirmed, and else answered as fieldbook_shot answers these numbers. */
+struct fieldbook_shot_answer fieldbook_card_shot(const int64_t *card, size_t card_count);
 
 #ifdef __cplusplus
 }

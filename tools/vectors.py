@@ -2,9 +2,9 @@
 """vectors.py VECTORS SECOND: writes the stored run of the program `vectors`, crates/vectors/stdin and stdout: a line that asks, and the line that must
 answer it. VECTORS is the folder of the outside vectors, SECOND the second program. No answer comes from the program under test: most are what the vector
 files have behind the `=`, the lines of crates/vectors/cases.txt are answered there, and the Sun's numbers at the almanacs' instants are the second
-program's, as are the calls that bring the numbers of a pointing onto a card. card.txt and pointing.txt are older than request 5: what hangs on the sine,
-the angles of an answered shot and whether it is refused by 7 or 8, is the second program's, which must agree with them in everything else. Prints how
-many lines each word has. Where a line of longitude.txt breaks its own bound, nothing is written."""
+program's, as are the calls that bring the numbers of a pointing onto a card. pointing.txt is older than request 5: what hangs on the sine, a mark's
+azimuth and whether its shot is refused by 7 or 8, is the second program's, which must agree with it in everything else. Prints how many lines each word
+has. Where a line of longitude.txt breaks its own bound, nothing is written."""
 import collections
 import os
 import sys
@@ -150,22 +150,6 @@ def without_sine(refusal):
     return "seen or not" if refusal in ("0", "7", "8", "15") else refusal
 
 
-def shot_without_angles(call, answer):
-    """What a call on a card answers; of a shot no more than its refusal and the card."""
-    returned, _, card = answer.partition(" |")
-    return f"{without_sine(returned.split()[0])} |{card}" if call == "shot" else answer
-
-
-def calls_as_they_are(second, lines):
-    """The calls of card.txt, with the second program's answers, which must be those of the file but for what hangs on the sine."""
-    calls = [call for call, _ in lines]
-    found = list(zip(calls, almanac.answers(second, "card", calls)))
-    for (call, answer), (_, older) in zip(found, lines):
-        if shot_without_angles(call, answer) != shot_without_angles(call, older):
-            sys.exit(f"the second program has {answer}: {call} = {older}")
-    return found
-
-
 def calls_and_shots(calls, shots):
     """The calls on the card as they stand, with a plain shot after every so many."""
     found, left = [], list(shots)
@@ -186,7 +170,7 @@ def main(folder, second):
         + longitudes(vectors("longitude.txt"))
         + steps(vectors("parts.txt"))
         + suns(second)
-        + calls_and_shots(calls_as_they_are(second, vectors("card.txt")), some_shots(vectors("shot.txt")))
+        + calls_and_shots(vectors("card.txt"), some_shots(vectors("shot.txt")))
         + pointings_from_cards(second, vectors("pointing.txt"))
         + choices(vectors("choice.txt"))
     )

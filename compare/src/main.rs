@@ -1,6 +1,7 @@
 //! Compares the book's static library, called as it is and through the safe wrapper, with the
-//! second program on random shots, one by one and many in a call, pointings and choices, and with
-//! the outside vectors. Fails where they differ or an outcome is reached fewer than `LEAST` times.
+//! second program on random shots, one by one and many in a call, pointings, choices and calls on
+//! cards, and with the outside vectors. Fails where they differ or an outcome is reached fewer than
+//! `LEAST` times.
 //!
 //! usage: compare SEED COUNT
 
@@ -8,9 +9,12 @@
 #[path = "../../capi/rust/src/ffi.rs"]
 mod ffi;
 
-use fieldbook::{Numbers, Refusal, ShotAngles};
-use second::compare::{compare_asked, compare_library, compare_vectors, Way};
+use fieldbook::{Card, Numbers, Refusal, ShotAngles};
+use second::call::Call;
+use second::card::Field;
+use second::compare::{compare_asked, compare_library, compare_vectors, outcomes_of_calls, Way};
 use second::counts::LEAST;
+use second::lent_cards::{compare_lent_cards, compare_own_cards, outcomes_of_lent_cards};
 use second::many_shots::compare_many_shots;
 use second::question::{Choice, LibraryAnswer, Pointing, Question, Shot};
 use second::sine::Sine;
@@ -23,10 +27,15 @@ fn shot(shot: &Shot) -> LibraryAnswer<Shot> {
     (a.refusal, [a.azimuth, a.zenith_distance, a.hour_angle, a.longitude])
 }
 
+/// The wrapper's angles of a shot.
+fn angles(a: ShotAngles) -> [u64; 4] {
+    [a.azimuth, a.zenith_distance, a.hour_angle, a.longitude]
+}
+
 /// The wrapper's answer to a shot as a library's.
 fn library_answer(answer: Result<ShotAngles, Refusal>) -> LibraryAnswer<Shot> {
     match answer {
-        Ok(a) => (0, [a.azimuth, a.zenith_distance, a.hour_angle, a.longitude]),
+        Ok(answered) => (0, angles(answered)),
         Err(refusal) => (refusal as u64, Shot::REFUSED),
     }
 }
@@ -87,6 +96,55 @@ fn wrapped_choice(choice: &Choice) -> LibraryAnswer<Choice> {
     }
 }
 
+/// The static library's call on a card in lent words.
+fn card_call(call: &Call, card: &mut [i64], buffer: &mut [u8]) -> Vec<u64> {
+    match *call {
+        Call::Fresh => vec![ffi::card_fresh(card)],
+        Call::Hear(field, number) => vec![ffi::card_hear(card, field, number)],
+        Call::Read { field, place, .. } => {
+            let answer = ffi::card_read(card, field, buffer, place);
+            vec![answer.refusal, answer.length]
+        }
+        Call::Confirm(field) => vec![ffi::card_confirm(card, field)],
+        Call::Undo => vec![ffi::card_undo(card)],
+        Call::Shot => {
+            let a = ffi::card_shot(card);
+            vec![a.refusal, a.azimuth, a.zenith_distance, a.hour_angle, a.longitude]
+        }
+    }
+}
+
+/// The wrapper's call on a card, whose words it keeps to itself, and the fields it shows then.
+fn wrapped_card_call(card: &mut Card, call: &Call, buffer: &mut [u8]) -> (Vec<u64>, Vec<Field>) {
+    let values = match *call {
+        Call::Fresh => {
+            *card = Card::fresh();
+            Ok(vec![])
+        }
+        Call::Hear(field, number) => card.hear(field, number).map(|()| vec![]),
+        Call::Read { field, place, .. } => {
+            card.read(field, buffer, place).map(|length| vec![length as u64])
+        }
+        Call::Confirm(field) => card.confirm(field).map(|()| vec![]),
+        Call::Undo => card.undo().map(|()| vec![]),
+        Call::Shot => card.shot().map(|answered| angles(answered).to_vec()),
+    };
+    let answer = call.answer_words(values.map_err(|refusal| refusal as u64));
+    // beyond the eleven too, where it must show none
+    let fields = (0..=12).filter_map(|field| card.field(field));
+    (answer, fields.map(second_field).collect())
+}
+
+/// The wrapper's field as one of the second program.
+fn second_field(field: fieldbook::Field) -> Field {
+    match field {
+        fieldbook::Field::Empty => Field::Empty,
+        fieldbook::Field::Heard(number) => Field::Heard(number),
+        fieldbook::Field::Read(number) => Field::Read(number),
+        fieldbook::Field::Confirmed(number) => Field::Confirmed(number),
+    }
+}
+
 /// The outside vectors of a kind of question.
 enum Vectors {
     /// Of the rules as they stand.
@@ -132,6 +190,22 @@ fn many_shots_agree((seed, count): (u64, u64)) -> Result<(), String> {
     Ok(())
 }
 
+/// Compares calls on cards: on words lent to the static library, good and spoiled, and on a card of
+/// the wrapper.
+fn cards_agree(run: (u64, u64)) -> Result<(), String> {
+    let sine = Sine::new();
+    let counts = compare_lent_cards(&sine, run, &mut card_call)?;
+    counts.all_reached(&outcomes_of_lent_cards(), LEAST)?;
+    println!("{} calls of the static library on cards agree: {counts}", counts.total());
+    let mut card = Card::fresh();
+    let counts = compare_own_cards(&sine, run, &mut |call, buffer| {
+        wrapped_card_call(&mut card, call, buffer)
+    })?;
+    counts.all_reached(&outcomes_of_calls(), LEAST)?;
+    println!("{} calls of the wrapper on cards agree: {counts}", counts.total());
+    Ok(())
+}
+
 fn main() -> Result<(), Box<dyn Error>> {
     let words: Vec<String> = std::env::args().skip(1).collect();
     let [seed, count] = words.as_slice() else {
@@ -145,5 +219,6 @@ fn main() -> Result<(), Box<dyn Error>> {
     agrees("pointings", run, vectors, pointing, wrapped_pointing)?;
     let vectors = Vectors::Current(include_str!("../../second/tests/data/choice.txt"));
     agrees("choices", run, vectors, choice, wrapped_choice)?;
+    cards_agree(run)?;
     Ok(())
 }

@@ -18,6 +18,8 @@ pub enum Outcome {
     Second,
     /// A choice of the first list, the spreads being equal.
     Tie,
+    /// An undo of a hearing.
+    Undone,
     /// By the refusal's number.
     Refused(u64),
     /// One that is none of these: a call on a card that is accepted, or the card's start.
@@ -35,14 +37,14 @@ impl Outcome {
         }
     }
 
-    /// The outcome of a call on a card, of which the refusal's number stands first; an answered
-    /// shot has four angles between that and the card.
-    pub fn of_call(line: &str) -> Self {
-        let words: Vec<&str> = line.split(' ').collect();
-        match words[0].parse() {
-            Ok(0) if words.get(5) == Some(&"|") => Outcome::Answered,
-            Ok(0) | Err(_) => Outcome::Other,
-            Ok(number) => Outcome::Refused(number),
+    /// The outcome of a call on a card by its answer, in which the refusal's number stands first.
+    pub fn of_call(call: &str, answer: &str) -> Self {
+        let number = answer.split(' ').next().and_then(|word| word.parse().ok());
+        match (number, call) {
+            (Some(0), "shot") => Outcome::Answered,
+            (Some(0), "undo") => Outcome::Undone,
+            (Some(0) | None, _) => Outcome::Other,
+            (Some(number), _) => Outcome::Refused(number),
         }
     }
 }
@@ -54,6 +56,7 @@ impl fmt::Display for Outcome {
             Outcome::First => write!(f, "first"),
             Outcome::Second => write!(f, "second"),
             Outcome::Tie => write!(f, "tie"),
+            Outcome::Undone => write!(f, "undone"),
             Outcome::Refused(number) => write!(f, "no {number}"),
             Outcome::Other => write!(f, "others"),
         }
@@ -71,7 +74,27 @@ pub struct Counts {
     counts: BTreeMap<Outcome, u64>,
 }
 
+impl FromIterator<Outcome> for Counts {
+    fn from_iter<I: IntoIterator<Item = Outcome>>(outcomes: I) -> Self {
+        let mut counts = Counts::default();
+        outcomes.into_iter().for_each(|outcome| counts.add(outcome, 1));
+        counts
+    }
+}
+
 impl Counts {
+    /// The counts of an output of `shots`, `pointings` or `session`.
+    pub fn of_lines(output: &[u8]) -> Self {
+        String::from_utf8_lossy(output).lines().map(Outcome::of_line).collect()
+    }
+
+    /// The counts of calls on cards and the answers to them.
+    pub fn of_calls(calls: &[u8], answers: &[u8]) -> Self {
+        let (calls, answers) = (String::from_utf8_lossy(calls), String::from_utf8_lossy(answers));
+        let pairs = calls.lines().zip(answers.lines());
+        pairs.map(|(call, answer)| Outcome::of_call(call, answer)).collect()
+    }
+
     /// Counts an outcome as met some times more.
     pub fn add(&mut self, outcome: Outcome, times: u64) {
         *self.counts.entry(outcome).or_default() += times;

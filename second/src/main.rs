@@ -32,7 +32,7 @@ usage: second COMMAND, from standard input to standard output, a line for a line
   sine                        a -> Sin(a) Cos(a)
   angle                       x y -> angle(x, y)
   choice                      two lists -> refusal, which list, its length
-  card                        fresh, old, hear, read, confirm, shot, pointing -> result and card
+  card                        fresh, old, hear, read, confirm, undo, shot, pointing -> result, card
   count-refusals              answers of the first three -> how often each was given
 without input:
   random-shots SEED COUNT     lines of eleven numbers
@@ -180,7 +180,8 @@ fn bench(sine: &Sine, count: u64, bodies: RangeInclusive<i64>) -> Done {
 fn compare_batch<Q: BatchQuestion>(sine: &Sine, seed: u64, count: u64, program: &[&str]) -> Done {
     let input = random_batch::<Q>(sine, seed, count);
     let answers = batch_answers::<Q>(sine, &input);
-    let counts = equal_outputs(&answers, &output_of(program, input)?, Outcome::of_line)?;
+    equal_outputs(&answers, &output_of(program, input)?)?;
+    let counts = Counts::of_lines(&answers);
     print(format!("{counts}\n").as_bytes())?;
     Ok(counts.all_reached(&outcomes_of_a_batch::<Q>(), LEAST)?)
 }
@@ -191,9 +192,10 @@ fn compare_sessions(sine: &Sine, sessions: &[(u64, u64)], program: &[&str]) -> D
         let input = random_lines(sine, seed, lines);
         let mut answers = Vec::new();
         session::run(sine, input.as_slice(), &mut answers)?;
-        Ok((input, answers))
+        let counts = Counts::of_lines(&answers);
+        Ok((input, answers, counts))
     };
-    let counts = compare_runs("random-lines", sessions, asked, Outcome::of_line, program)?;
+    let counts = compare_runs("random-lines", sessions, asked, program)?;
     print(format!("sessions {}, {counts}\n", sessions.len()).as_bytes())?;
     Ok(counts.all_reached(&outcomes_of_sessions(), LEAST)?)
 }
@@ -203,28 +205,29 @@ fn compare_calls(sine: &Sine, start: Start, runs: &[(u64, u64)], program: &[&str
     let asked = |seed, lines| {
         let input = random_calls(sine, start, seed, lines);
         let answers = call_answers(sine, &input);
-        Ok((input, answers))
+        let counts = Counts::of_calls(&input, &answers);
+        Ok((input, answers, counts))
     };
     let kind = format!("random-calls {}", start.word());
-    let counts = compare_runs(&kind, runs, asked, Outcome::of_call, program)?;
+    let counts = compare_runs(&kind, runs, asked, program)?;
     print(format!("runs {}, {counts}\n", runs.len()).as_bytes())?;
     Ok(counts.all_reached(&outcomes_of_calls(), LEAST)?)
 }
 
 /// Compares another program's outputs with these: for the seed and the number of lines of each
-/// run, `asked` gives the input and this program's answers.
+/// run, `asked` gives the input, this program's answers and how often it met each outcome.
 fn compare_runs(
     kind: &str,
     runs: &[(u64, u64)],
-    asked: impl Fn(u64, u64) -> io::Result<(Vec<u8>, Vec<u8>)>,
-    outcome: fn(&str) -> Outcome,
+    asked: impl Fn(u64, u64) -> io::Result<(Vec<u8>, Vec<u8>, Counts)>,
     program: &[&str],
 ) -> Result<Counts, Box<dyn Error>> {
     let mut counts = Counts::default();
     for &(seed, lines) in runs {
-        let (input, answers) = asked(seed, lines)?;
-        let agreed = equal_outputs(&answers, &output_of(program, input)?, outcome);
-        counts.add_all(&agreed.map_err(|error| format!("{kind} {seed} {lines}: {error}"))?);
+        let (input, answers, met) = asked(seed, lines)?;
+        equal_outputs(&answers, &output_of(program, input)?)
+            .map_err(|error| format!("{kind} {seed} {lines}: {error}"))?;
+        counts.add_all(&met);
     }
     Ok(counts)
 }

@@ -1,4 +1,4 @@
-//! The refusals. Document 01, "Refusal numbers", and document 02, requests 1 and 3.
+//! The refusals. Document 01, "Refusal numbers", and document 02, requests 1, 3 and 6.
 
 /// A refusal; its number in the documents is its value.
 #[derive(Clone, Copy, Debug, PartialEq, Eq)]
@@ -20,6 +20,7 @@ pub enum Refusal {
     AngleOutOfRange = 15,
     LengthOutOfRange = 16,
     DeltaTOutOfRange = 17,
+    NothingToUndo = 18,
 }
 
 impl Refusal {

@@ -3,6 +3,7 @@
 use crate::angle::angle;
 use crate::arguments::{Arguments, ALL};
 use crate::calendar::instant;
+use crate::call::{to_hex, Call};
 use crate::card::{Card, Field};
 use crate::frame::frame;
 use crate::lines::{joined, number, numbers, words, MOST_DIGITS};
@@ -71,57 +72,40 @@ pub fn longitude_line(
     Ok(joined(&[s, exact, LONGITUDE_BOUND]))
 }
 
-/// The refusal number of a call, 0 for none.
-fn refusal_number<T>(result: Result<T, Refusal>) -> i64 {
-    result.map_or_else(Refusal::number, |_| 0)
-}
-
 /// One call on the card: `fresh`, `old` (the start before request 4), `hear F N`,
-/// `read F PLACE BUFFER`, `confirm F`, `shot` or `pointing A` -> what it returned, then the
-/// card's fields.
+/// `read F PLACE BUFFER`, `confirm F`, `undo`, `shot` or `pointing A` -> what it returned, then
+/// the card's fields.
 pub fn card_line(sine: &Sine, card: &mut Card, line: &[u8]) -> Result<String, Refusal> {
     let words = words(line);
-    let number = |i: usize| number(words[i], MOST_DIGITS);
-    let returned = match (words[0], words.len()) {
-        (b"fresh", 1) => start_from(card, Card::fresh()),
-        (b"old", 1) => start_from(card, Card::fresh_with_dut1_assumed_zero()),
-        (b"hear", 3) => format!("{} ", refusal_number(card.hear(number(1)?, number(2)?))),
-        (b"confirm", 2) => format!("{} ", refusal_number(card.confirm(number(1)?))),
-        (b"read", 4) => read_call(card, number(1)?, number(2)?, words[3])?,
-        (b"shot", 1) => shot_call(sine, card),
-        (b"pointing", 2) => pointing_call(sine, card, number(1)?),
-        _ => return Err(Refusal::MalformedLine),
+    let returned = match *words {
+        [b"old"] => {
+            *card = Card::fresh_with_dut1_assumed_zero();
+            String::new()
+        }
+        [b"pointing", angle] => pointing_call(sine, card, number(angle, MOST_DIGITS)?),
+        _ => returned(sine, card, &Call::from_words(&words)?),
     };
     let fields: Vec<String> = card.fields().iter().map(field_text).collect();
     Ok(format!("{returned}| {}", fields.join(" ")))
 }
 
-/// A card in place of another, which returns nothing.
-fn start_from(card: &mut Card, start: Card) -> String {
-    *card = start;
-    String::new()
-}
-
-/// Reads a field into a buffer given in hex: refusal, length and the buffer after.
-fn read_call(card: &mut Card, field: i64, place: i64, hex: &[u8]) -> Result<String, Refusal> {
-    let mut buffer = from_hex(hex)?;
-    let place = usize::try_from(place).map_err(|_| Refusal::MalformedLine)?;
-    let result = card.read(field, place, &mut buffer);
-    let length = result.unwrap_or(0);
-    Ok(format!("{} {length} {} ", refusal_number(result), to_hex(&buffer)))
-}
-
-/// A shot from the card: refusal and four angles, zeros when refused.
-fn shot_call(sine: &Sine, card: &Card) -> String {
-    let result = card.shot(sine);
-    let a = result.unwrap_or_default();
-    format!("{} {} ", refusal_number(result), joined(&a.words()))
+/// What a call returns: the words of its answer, and behind those of a reading the buffer; a start
+/// returns nothing.
+fn returned(sine: &Sine, card: &mut Card, call: &Call) -> String {
+    let mut buffer = call.buffer().to_vec();
+    let answer = joined(&call.answer(sine, card, &mut buffer));
+    match call {
+        Call::Fresh => String::new(),
+        Call::Read { .. } => format!("{answer} {} ", to_hex(&buffer)),
+        _ => format!("{answer} "),
+    }
 }
 
 /// A pointing from the card: refusal and the mark's azimuth, 0 when refused.
 fn pointing_call(sine: &Sine, card: &Card, angle: i64) -> String {
     let result = pointing_from_card(sine, card, angle);
-    format!("{} {} ", refusal_number(result), result.unwrap_or_default())
+    let number = result.map_or_else(Refusal::number, |_| 0);
+    format!("{number} {} ", result.unwrap_or_default())
 }
 
 /// A field's state and number: e, hN, rN, cN.
@@ -132,27 +116,6 @@ fn field_text(field: &Field) -> String {
         Field::Read(number) => format!("r{number}"),
         Field::Confirmed(number) => format!("c{number}"),
     }
-}
-
-/// The bytes of a buffer in hex; `-` is the empty one.
-fn from_hex(hex: &[u8]) -> Result<Vec<u8>, Refusal> {
-    if hex == b"-" {
-        return Ok(Vec::new());
-    }
-    let digit = |byte: u8| char::from(byte).to_digit(16).ok_or(Refusal::MalformedLine);
-    let byte = |pair: &[u8]| match *pair {
-        [high, low] => Ok((16 * digit(high)? + digit(low)?) as u8),
-        _ => Err(Refusal::MalformedLine),
-    };
-    hex.chunks(2).map(byte).collect()
-}
-
-/// A buffer in hex; `-` is the empty one.
-pub fn to_hex(bytes: &[u8]) -> String {
-    if bytes.is_empty() {
-        return "-".to_string();
-    }
-    bytes.iter().map(|byte| format!("{byte:02x}")).collect()
 }
 
 #[cfg(test)]
@@ -179,6 +142,15 @@ mod tests {
         assert_eq!(answer("pointing -1"), Ok(format!("15 0 {confirmed}")));
         for line in ["pointing", "pointing  5", "pointing 5 5", "pointing x"] {
             assert_eq!(answer(line), Err(Refusal::MalformedLine));
+        }
+    }
+
+    #[test]
+    fn undo_takes_no_number() {
+        let sine = Sine::new();
+        for line in ["undo 5", "undo ", " undo", "Undo"] {
+            let answer = card_line(&sine, &mut Card::fresh(), line.as_bytes());
+            assert_eq!(answer, Err(Refusal::MalformedLine));
         }
     }
 }

@@ -5,7 +5,6 @@
 
 mod vector_lines;
 
-use second::card::Card;
 use second::question::Pointing;
 use second::replay;
 use second::session;
@@ -18,13 +17,6 @@ fn pointing_vectors() {
     agree(include_str!("data/pointing.txt"), 200, |line| {
         replay::question_line::<Pointing>(&sine, line)
     });
-}
-
-#[test]
-fn card_vectors() {
-    let sine = Sine::new();
-    let mut card = Card::fresh();
-    agree(include_str!("data/card.txt"), 1_648, |line| replay::card_line(&sine, &mut card, line));
 }
 
 /// One session of the file: input lines and answers.

@@ -5,6 +5,7 @@
 
 mod vector_lines;
 
+use second::card::Card;
 use second::polynomial::Polynomial;
 use second::question::{asked_by_vector, Choice, Shot};
 use second::refusal::Refusal;
@@ -17,6 +18,13 @@ use vector_lines::agree;
 fn shot_vectors() {
     let sine = Sine::new();
     agree(include_str!("data/shot.txt"), 1_975, |line| replay::question_line::<Shot>(&sine, line));
+}
+
+#[test]
+fn card_vectors() {
+    let sine = Sine::new();
+    let mut card = Card::fresh();
+    agree(include_str!("data/card.txt"), 2_249, |line| replay::card_line(&sine, &mut card, line));
 }
 
 #[test]

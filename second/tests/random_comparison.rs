@@ -1,17 +1,25 @@
 //! The comparison itself: it reaches every refusal, agrees with this program and finds
 //! another that differs.
 
+use second::call::Call;
+use second::card::{Card, Field, WORDS};
 use second::compare::{
     batch_answers, call_answers, compare_library, compare_vectors, equal_outputs,
     outcomes_of_a_batch, outcomes_of_calls, outcomes_of_sessions, random_batch, random_lines,
     random_runs, random_sessions, Way,
 };
 use second::counts::{Counts, Outcome, LEAST};
+use second::digits::LONGEST;
+use second::lent_cards::{
+    call_on_words, compare_lent_cards, compare_own_cards, outcomes_of_lent_cards, NO_CARD,
+};
 use second::many_shots::compare_many_shots;
 use second::question::{BatchQuestion, Choice, LibraryAnswer, Pointing, Question, Shot};
 use second::random_calls::{random_calls, Start};
+use second::replay::card_line;
 use second::session;
 use second::sine::Sine;
+use std::cell::Cell;
 
 const COUNT: u64 = 20_000;
 
@@ -122,8 +130,7 @@ fn a_library_that_differs_is_found() {
 /// This program's answers to a random batch reach every outcome, and 14.
 fn batch_reaches_every_outcome<Q: BatchQuestion>() {
     let sine = Sine::new();
-    let answers = batch_answers::<Q>(&sine, &random_batch::<Q>(&sine, 1, COUNT));
-    let counts = equal_outputs(&answers, &answers, Outcome::of_line).unwrap();
+    let counts = Counts::of_lines(&batch_answers::<Q>(&sine, &random_batch::<Q>(&sine, 1, COUNT)));
     assert_eq!(counts.all_reached(&outcomes_of_a_batch::<Q>(), LEAST), Ok(()));
     assert_eq!(counts.total(), COUNT);
 }
@@ -151,7 +158,7 @@ fn sessions(sine: &Sine, seed: u64) -> Counts {
         let input = random_lines(sine, seed, lines);
         let mut output = Vec::new();
         session::run(sine, input.as_slice(), &mut output).unwrap();
-        let one = equal_outputs(&output, &output, Outcome::of_line).unwrap();
+        let one = Counts::of_lines(&output);
         assert_eq!(one.total(), lines);
         counts.add_all(&one);
     }
@@ -175,8 +182,8 @@ fn calls_reach_every_refusal() {
     for start in [Start::Fresh, Start::Old] {
         let mut counts = Counts::default();
         for (seed, lines) in random_runs(1, COUNT) {
-            let answers = call_answers(&sine, &random_calls(&sine, start, seed, lines));
-            counts.add_all(&equal_outputs(&answers, &answers, Outcome::of_call).unwrap());
+            let calls = random_calls(&sine, start, seed, lines);
+            counts.add_all(&Counts::of_calls(&calls, &call_answers(&sine, &calls)));
         }
         assert_eq!(counts.all_reached(&outcomes_of_calls(), 1), Ok(()), "{start:?}");
         assert_eq!(counts.total(), COUNT);
@@ -193,16 +200,297 @@ fn shots_with_the_assumed_dut1_are_reached() {
     let (mut heard, mut answered) = (false, 0);
     for (call, answer) in calls.lines().zip(answers.lines()) {
         heard = call != "old" && (heard || call.starts_with("hear 7 "));
-        answered += u64::from(!heard && Outcome::of_call(answer) == Outcome::Answered);
+        answered += u64::from(!heard && Outcome::of_call(call, answer) == Outcome::Answered);
     }
     assert!(answered > 0);
 }
 
 #[test]
 fn calls_are_counted_by_their_form() {
-    let output = b"| e\n0 | h5\n0 1 2 3 4 | c5\n0 1 35 | r5\n11 0 - | h5\n1 0 0 0 0 | e\n";
-    let counts = equal_outputs(output, output, Outcome::of_call).unwrap();
-    assert_eq!(counts.to_string(), "answered 1, no 1 1, no 11 1, others 3");
+    let calls = b"fresh\nhear 1 5\nshot\nread 1 0 00\nread 1 0 -\nshot\nundo\nundo\n";
+    let answers =
+        b"| e\n0 | h5\n0 1 2 3 4 | c5\n0 1 35 | r5\n11 0 - | h5\n1 0 0 0 0 | e\n0 | e\n18 | e\n";
+    let counts = Counts::of_calls(calls, answers);
+    assert_eq!(counts.to_string(), "answered 1, undone 1, no 1 1, no 11 1, no 18 1, others 3");
+}
+
+/// The words of a card.
+type Words = [i64; WORDS];
+
+/// The comparison of this program's answers to random calls with those of a card of which, after
+/// each call, the words are changed; the change is told the call, its answer and the words before.
+fn changed_after_calls(change: impl Fn(&str, &str, &Words, &mut Words)) -> Result<(), String> {
+    let sine = Sine::new();
+    let calls = random_calls(&sine, Start::Old, 1, COUNT);
+    let (mut card, mut given) = (Card::fresh(), String::new());
+    for call in String::from_utf8_lossy(&calls).lines() {
+        let before = card.words();
+        let answer = card_line(&sine, &mut card, call.as_bytes()).expect("a call");
+        given += &format!("{answer}\n");
+        let mut words = card.words();
+        change(call, &answer, &before, &mut words);
+        card = Card::from_words(&words).expect("a card");
+    }
+    equal_outputs(&call_answers(&sine, &calls), given.as_bytes())
+}
+
+/// The word of the field whose hearing can be undone, the first of those that tell of it.
+const HEARING: usize = 22;
+
+#[test]
+fn a_card_that_differs_is_found() {
+    let is_undone = |call: &str, before: &Words| call == "undo" && before[HEARING] != 0;
+    assert_eq!(changed_after_calls(|_, _, _, _| {}), Ok(()));
+    let undone_twice = changed_after_calls(|call, _, before, words| {
+        if is_undone(call, before) {
+            words[HEARING..].copy_from_slice(&before[HEARING..]);
+        }
+    });
+    assert!(undone_twice.is_err());
+    let undone_to_empty = changed_after_calls(|call, _, before, words| {
+        if is_undone(call, before) {
+            words[2 * before[HEARING] as usize - 2..][..2].fill(0);
+        }
+    });
+    assert!(undone_to_empty.is_err());
+    let undone_to_heard = changed_after_calls(|call, _, before, words| {
+        if is_undone(call, before) {
+            let state = &mut words[2 * before[HEARING] as usize - 2];
+            *state = 1.min(*state);
+        }
+    });
+    assert!(undone_to_heard.is_err());
+    let before_hearing = Cell::new([0; WORDS]);
+    let others_undone = changed_after_calls(|call, answer, before, words| {
+        if call.starts_with("hear ") && answer.starts_with("0 ") {
+            before_hearing.set(*before);
+        }
+        if is_undone(call, before) {
+            words[..HEARING].copy_from_slice(&before_hearing.get()[..HEARING]);
+        }
+    });
+    assert!(others_undone.is_err());
+    for state in [2, 3] {
+        let ended_by_state = changed_after_calls(|_, _, _, words| {
+            if words[HEARING] != 0 && words[2 * words[HEARING] as usize - 2] == state {
+                words[HEARING..].fill(0);
+            }
+        });
+        assert!(ended_by_state.is_err());
+    }
+    let ended_by_refusal = changed_after_calls(|call, answer, _, words| {
+        if call.starts_with("hear ") && !answer.starts_with("0 ") {
+            words[HEARING..].fill(0);
+        }
+    });
+    assert!(ended_by_refusal.is_err());
+    let same_number_not_counted = changed_after_calls(|call, _, before, words| {
+        if call.starts_with("hear ") && words[..HEARING] == before[..HEARING] {
+            words[HEARING..].copy_from_slice(&before[HEARING..]);
+        }
+    });
+    assert!(same_number_not_counted.is_err());
+    let kept_by_start = changed_after_calls(|call, _, before, words| {
+        if call == "old" {
+            words[HEARING..].copy_from_slice(&before[HEARING..]);
+        }
+    });
+    assert!(kept_by_start.is_err());
+}
+
+/// The comparison of cards in lent words with a library that does as this program does, and then
+/// one thing more; this is told the call and the words before.
+fn changed_after(
+    sine: &Sine,
+    change: impl Fn(&Call, &[i64], &mut Vec<u64>, &mut [i64], &mut [u8]),
+) -> Result<Counts, String> {
+    compare_lent_cards(sine, (1, COUNT), &mut |call, words, buffer| {
+        let before = words.to_vec();
+        let mut answer = call_on_words(sine, call, words, buffer);
+        change(call, &before, &mut answer, words, buffer);
+        answer
+    })
+}
+
+/// The same with a library that takes some words for others.
+fn taken_for(sine: &Sine, change: impl Fn(&mut Vec<i64>)) -> Result<Counts, String> {
+    compare_lent_cards(sine, (1, COUNT), &mut |call, words, buffer| {
+        let mut taken = words.to_vec();
+        change(&mut taken);
+        let answer = call_on_words(sine, call, &mut taken, buffer);
+        if answer[0] == 0 {
+            words.iter_mut().zip(taken).for_each(|(word, taken)| *word = taken);
+        }
+        answer
+    })
+}
+
+#[test]
+fn lent_cards_reach_every_outcome() {
+    let counts = changed_after(&Sine::new(), |_, _, _, _, _| {}).unwrap();
+    assert_eq!(counts.all_reached(&outcomes_of_lent_cards(), 1), Ok(()));
+    assert!(counts.total() >= COUNT);
+}
+
+#[test]
+fn lent_cards_that_differ_are_found() {
+    let sine = Sine::new();
+    let undone_to_empty = changed_after(&sine, |call, before, answer, words, _| {
+        if *call == Call::Undo && answer[0] == 0 {
+            words[2 * before[HEARING] as usize - 2..][..2].fill(0);
+        }
+    });
+    assert!(undone_to_empty.is_err());
+    let undone_twice = changed_after(&sine, |call, before, answer, words, _| {
+        if *call == Call::Undo && answer[0] == 0 {
+            words[HEARING..].copy_from_slice(&before[HEARING..]);
+        }
+    });
+    assert!(undone_twice.is_err());
+    let refused_hearing_kept = changed_after(&sine, |call, before, answer, words, _| match *call {
+        Call::Hear(field, _) if answer[0] == 13 => {
+            words[HEARING] = field;
+            words[HEARING + 1..].copy_from_slice(&before[2 * field as usize - 2..][..2]);
+        }
+        _ => {}
+    });
+    assert!(refused_hearing_kept.is_err());
+    for refusal in [1, 9, 10, 11, 12, 13, 18, NO_CARD] {
+        let refused_and_written = changed_after(&sine, |_, _, answer, words, _| {
+            if answer[0] == refusal {
+                words.iter_mut().take(1).for_each(|word| *word ^= 1);
+            }
+        });
+        assert!(refused_and_written.is_err());
+    }
+    for refusal in [1, 9, 10, 11, NO_CARD] {
+        let refused_with_a_value = changed_after(&sine, |_, _, answer, _, _| {
+            if answer[0] == refusal {
+                answer[1..].fill(1);
+            }
+        });
+        assert!(refused_with_a_value.is_err());
+    }
+    let shot_writes = changed_after(&sine, |call, _, answer, words, _| {
+        if *call == Call::Shot && answer[0] == 0 {
+            words[HEARING..].fill(0);
+        }
+    });
+    assert!(shot_writes.is_err());
+    let fresh_tests_words = changed_after(&sine, |call, before, answer, words, _| {
+        if *call == Call::Fresh && Card::from_words(before).is_none() {
+            answer[0] = NO_CARD;
+            words.copy_from_slice(before);
+        }
+    });
+    assert!(fresh_tests_words.is_err());
+}
+
+#[test]
+fn lent_buffers_that_differ_are_found() {
+    let sine = Sine::new();
+    let written_beyond_its_text = changed_after(&sine, |call, _, answer, _, buffer| match *call {
+        Call::Read { place, .. } if answer[0] == 0 => {
+            let behind = &mut buffer[place + answer[1] as usize..];
+            behind.iter_mut().take(1).for_each(|byte| *byte ^= 1);
+        }
+        _ => {}
+    });
+    assert!(written_beyond_its_text.is_err());
+    let place_that_wraps = changed_after(&sine, |call, _, answer, _, _| match *call {
+        Call::Read { place, .. } if answer[0] == 11 && place.checked_add(LONGEST).is_none() => {
+            *answer = vec![0, 1];
+        }
+        _ => {}
+    });
+    assert!(place_that_wraps.is_err());
+    for refusal in [9, 10, 11, NO_CARD] {
+        let refused_and_cleared = changed_after(&sine, |_, _, answer, _, buffer| {
+            if answer[0] == refusal {
+                buffer.fill(0);
+            }
+        });
+        assert!(refused_and_cleared.is_err());
+    }
+}
+
+/// Each way in which words are no card is tried.
+#[test]
+fn words_taken_for_a_card_are_found() {
+    let sine = Sine::new();
+    assert!(taken_for(&sine, |_| {}).is_ok());
+    let changes: [fn(&mut i64, &mut i64); 5] = [
+        |state, _| *state -= i64::from(*state == 4),
+        |state, _| *state &= 3,
+        |_, number| *number -= i64::from(*number == 10_000_000),
+        |_, number| *number += i64::from(*number == -10_000_000),
+        |state, number| *number *= i64::from(*state != 0),
+    ];
+    for state in [0, 20, HEARING + 1] {
+        for change in changes {
+            let field_taken = taken_for(&sine, |words| {
+                if let Some([state, number]) = words.get_mut(state..state + 2) {
+                    change(state, number);
+                }
+            });
+            assert!(field_taken.is_err());
+        }
+    }
+    for no_field in [-1, 12, i64::MIN, i64::MAX] {
+        let kept_nowhere = taken_for(&sine, |words| {
+            if words.get(HEARING) == Some(&no_field) {
+                words[HEARING..].fill(0);
+            }
+        });
+        assert!(kept_nowhere.is_err());
+    }
+    let nothing_kept = taken_for(&sine, |words| {
+        if words.get(HEARING) == Some(&0) {
+            words[HEARING..].fill(0);
+        }
+    });
+    assert!(nothing_kept.is_err());
+    for count in [0, WORDS - 1, WORDS + 1] {
+        let other_count = taken_for(&sine, |words| {
+            if words.len() == count {
+                words.resize(WORDS, 0);
+            }
+        });
+        assert!(other_count.is_err());
+    }
+}
+
+/// The comparison with a library that keeps its card to itself and then changes it, or what it
+/// shows of it.
+fn own_cards(
+    sine: &Sine,
+    change: impl Fn(&Call, &Card, &mut Card),
+    show: impl Fn(&Card) -> Vec<Field>,
+) -> Result<Counts, String> {
+    let mut card = Card::fresh();
+    compare_own_cards(sine, (1, COUNT), &mut |call, buffer| {
+        let before = card.clone();
+        let answer = call.answer(sine, &mut card, buffer);
+        change(call, &before, &mut card);
+        (answer, show(&card))
+    })
+}
+
+#[test]
+fn own_cards_are_compared_by_their_fields() {
+    let sine = Sine::new();
+    let fields = |card: &Card| card.fields().to_vec();
+    let counts = own_cards(&sine, |_, _, _| {}, fields).unwrap();
+    assert_eq!(counts.all_reached(&outcomes_of_calls(), 1), Ok(()));
+    assert_eq!(counts.of(Outcome::Refused(NO_CARD)), 0);
+    assert!(counts.total() >= COUNT);
+    let not_undone = |call: &Call, before: &Card, card: &mut Card| {
+        if *call == Call::Undo {
+            *card = before.clone();
+        }
+    };
+    assert!(own_cards(&sine, not_undone, fields).is_err());
+    assert!(own_cards(&sine, |_, _, _| {}, |card| card.fields()[..10].to_vec()).is_err());
 }
 
 #[test]
@@ -224,13 +512,13 @@ fn an_outcome_reached_too_rarely_is_found() {
 #[test]
 fn lines_are_counted_by_their_form() {
     let output = b"az 1 zd 2\nmark 3\nno 15\nno 1\nok\n5 0\nno 15\n";
-    let counts = equal_outputs(output, output, Outcome::of_line).unwrap();
+    let counts = Counts::of_lines(output);
     assert_eq!(counts.to_string(), "answered 2, no 1 1, no 15 2, others 2");
 }
 
 #[test]
 fn outputs_that_differ_are_found() {
-    let compared = |other: &[u8]| equal_outputs(b"ok\nno 1\n", other, Outcome::of_line);
+    let compared = |other: &[u8]| equal_outputs(b"ok\nno 1\n", other);
     assert!(compared(b"ok\nno 1\n").is_ok());
     for other in ["ok\n", "ok\nno 1", "ok\nno 2\n", "ok\nno 1\nok\n", ""] {
         assert!(compared(other.as_bytes()).is_err());

@@ -29,6 +29,14 @@ pub struct ChoiceAnswer {
     pub count: u64,
 }
 
+/// `struct fieldbook_read_answer`.
+#[repr(C)]
+#[derive(Clone, Copy, Debug, PartialEq, Eq)]
+pub struct ReadAnswer {
+    pub refusal: u64,
+    pub length: u64,
+}
+
 extern "C" {
     fn fieldbook_shot(
         year: i64,
@@ -72,6 +80,25 @@ extern "C" {
         second: *const i64,
         second_count: usize,
     ) -> ChoiceAnswer;
+
+    fn fieldbook_card_fresh(card: *mut i64, card_count: usize) -> u64;
+
+    fn fieldbook_card_hear(card: *mut i64, card_count: usize, field: i64, number: i64) -> u64;
+
+    fn fieldbook_card_read(
+        card: *mut i64,
+        card_count: usize,
+        field: i64,
+        buffer: *mut u8,
+        buffer_count: usize,
+        place: usize,
+    ) -> ReadAnswer;
+
+    fn fieldbook_card_confirm(card: *mut i64, card_count: usize, field: i64) -> u64;
+
+    fn fieldbook_card_undo(card: *mut i64, card_count: usize) -> u64;
+
+    fn fieldbook_card_shot(card: *const i64, card_count: usize) -> ShotAnswer;
 }
 
 /// The shot as the static library answers it, with the fields in the card's order.
@@ -99,4 +126,44 @@ pub fn pointing(n: [i64; 11], angle: i64) -> PointingAnswer {
 pub fn choice(first: &[i64], second: &[i64]) -> ChoiceAnswer {
     // SAFETY: the function is proved for all lists, only reads them, and keeps neither pointer.
     unsafe { fieldbook_choice(first.as_ptr(), first.len(), second.as_ptr(), second.len()) }
+}
+
+/// A fresh card in the words, as the static library writes it.
+pub fn card_fresh(card: &mut [i64]) -> u64 {
+    // SAFETY: the function is proved for all words, which are borrowed for it alone, and keeps no
+    // pointer.
+    unsafe { fieldbook_card_fresh(card.as_mut_ptr(), card.len()) }
+}
+
+/// The hearing as the static library does it, on any words.
+pub fn card_hear(card: &mut [i64], field: i64, number: i64) -> u64 {
+    // SAFETY: as for a fresh card.
+    unsafe { fieldbook_card_hear(card.as_mut_ptr(), card.len(), field, number) }
+}
+
+/// The reading as the static library does it, on any words and with any buffer and place.
+pub fn card_read(card: &mut [i64], field: i64, buffer: &mut [u8], place: usize) -> ReadAnswer {
+    let (words, bytes) = (card.len(), buffer.len());
+    // SAFETY: as for a fresh card, and the buffer too is borrowed for the function alone.
+    unsafe {
+        fieldbook_card_read(card.as_mut_ptr(), words, field, buffer.as_mut_ptr(), bytes, place)
+    }
+}
+
+/// The confirming as the static library does it, on any words.
+pub fn card_confirm(card: &mut [i64], field: i64) -> u64 {
+    // SAFETY: as for a fresh card.
+    unsafe { fieldbook_card_confirm(card.as_mut_ptr(), card.len(), field) }
+}
+
+/// The undo as the static library does it, on any words.
+pub fn card_undo(card: &mut [i64]) -> u64 {
+    // SAFETY: as for a fresh card.
+    unsafe { fieldbook_card_undo(card.as_mut_ptr(), card.len()) }
+}
+
+/// The shot from any words as the static library answers it.
+pub fn card_shot(card: &[i64]) -> ShotAnswer {
+    // SAFETY: the function is proved for all words, only reads them, and keeps no pointer.
+    unsafe { fieldbook_card_shot(card.as_ptr(), card.len()) }
 }

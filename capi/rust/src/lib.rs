@@ -1,7 +1,10 @@
 //! The proved field book for Rust: a safe wrapper of the static library's functions. The units
 //! are those of `capi/fieldbook.h`.
 
+mod card;
 mod ffi;
+
+pub use card::{Card, Field};
 
 /// The eleven numbers of a shot; any numbers may be given.
 #[derive(Clone, Copy, Debug, PartialEq, Eq)]
@@ -41,6 +44,8 @@ pub struct ShotAngles {
 /// Why there is no answer, in the order of the tests; its number is the discriminant.
 #[derive(Clone, Copy, Debug, PartialEq, Eq)]
 pub enum Refusal {
+    /// Of a shot from a card alone.
+    NotConfirmed = 1,
     NoDate = 2,
     NoTime = 3,
     NoDut1 = 4,
@@ -51,6 +56,13 @@ pub enum Refusal {
     NearZenith = 8,
     NoList = 16,
     NoAngle = 15,
+    /// This one and those below are of the card's other calls.
+    NoField = 9,
+    EmptyField = 10,
+    NoRoom = 11,
+    NotRead = 12,
+    TooLarge = 13,
+    NothingToUndo = 18,
 }
 
 impl From<[i64; 11]> for Numbers {
@@ -94,10 +106,12 @@ impl Numbers {
     }
 }
 
-/// Ends with the refusal that an answer's number names, 0 for none.
+/// Ends with the refusal that an answer's number names, 0 for none. Words that are no card would be
+/// refused by 100: none come here, since the proved calls alone write those of a `Card`.
 fn accepted(number: u64) -> Result<(), Refusal> {
     Err(match number {
         0 => return Ok(()),
+        1 => Refusal::NotConfirmed,
         2 => Refusal::NoDate,
         3 => Refusal::NoTime,
         4 => Refusal::NoDut1,
@@ -108,6 +122,12 @@ fn accepted(number: u64) -> Result<(), Refusal> {
         8 => Refusal::NearZenith,
         16 => Refusal::NoList,
         15 => Refusal::NoAngle,
+        9 => Refusal::NoField,
+        10 => Refusal::EmptyField,
+        11 => Refusal::NoRoom,
+        12 => Refusal::NotRead,
+        13 => Refusal::TooLarge,
+        18 => Refusal::NothingToUndo,
         _ => unreachable!("no call of this interface is refused by {number}"),
     })
 }
@@ -119,10 +139,14 @@ fn answered(words: [u64; 5]) -> Result<ShotAngles, Refusal> {
     Ok(ShotAngles { azimuth, zenith_distance, hour_angle, longitude })
 }
 
+/// The same of a shot that is answered by value.
+fn angles(a: ffi::ShotAnswer) -> Result<ShotAngles, Refusal> {
+    answered([a.refusal, a.azimuth, a.zenith_distance, a.hour_angle, a.longitude])
+}
+
 /// The shot: its angles, or why there are none.
 pub fn shot(numbers: &Numbers) -> Result<ShotAngles, Refusal> {
-    let a = ffi::shot(numbers.fields());
-    answered([a.refusal, a.azimuth, a.zenith_distance, a.hour_angle, a.longitude])
+    angles(ffi::shot(numbers.fields()))
 }
 
 /// Many shots, each with its own angles or refusal, in the order of their numbers. It builds the

@@ -1,8 +1,9 @@
 -- What the contracts of the C interface cite: the eleven numbers as the book takes them, and the words of each answer as the values that the rules give
 -- it (RULES.md, "Refusals", "The horizon" and "The mark").
-use mathlib.Core.List.{[], _∷_}
+use mathlib.Core.List.{List, [], _∷_}
 use lib.IntN.{ℤ}
-use Rattle.fieldbook.specs.Shot.{ShotValues, numbersOf}
+use Rattle.lent_card.specs.LentCard.{withCard}
+use Rattle.fieldbook.specs.Shot.{ShotValues, refused, numbersOf, shotFromCard}
 use Rattle.fieldbook.specs.declared.Numbers.{Numbers}
 use Rattle.pointing.specs.Pointing.{PointingValues}
 use Rattle.spread.specs.Spread.{ChoiceValues}
@@ -24,3 +25,7 @@ pointingAnswerValues a = record { refusal = a .refusal; mark = a .mark }
 
 abbrev pub choiceAnswerValues : ChoiceAnswer → ChoiceValues
 choiceAnswerValues a = record { refusal = a .refusal; list = a .list; count = a .count }
+
+-- the shot from a card in lent words (RULES.md, "A card in words")
+abbrev pub cardShot : List ℤ → ShotValues
+cardShot ws = withCard ws shotFromCard refused

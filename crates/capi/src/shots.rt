@@ -8,7 +8,7 @@ ghost use Prim.Native.Nat.{_*_, _≤_};
 ghost use lib.ListN.{length, drop};
 ghost use Rattle.sine_table.specs.Table.{entries};
 ghost use Rattle.card.specs.Fields.{fieldCount};
-ghost use Rattle.fieldbook.specs.Shot.{numbersOf, shotValues, ShotReduced, shot};
+ghost use Rattle.fieldbook.specs.Shot.{numbersOf, shotValues, refused, ShotReduced, shot};
 ghost use Rattle.capi.specs.Interface.{numbers, shotAnswerValues};
 ghost use Rattle.capi.specs.Rows.{wordCount, shotWords, rowCount, answersTo};
 
@@ -26,8 +26,21 @@ pub struct ShotAnswer {
     pub longitude: u64,
 }
 
+// A refused shot, by its number.
+pub fn refused(number: u64) -> ShotAnswer
+    ensures { λ r. ⌜ shotAnswerValues r ≡ refused number ⌝ }
+{
+    ShotAnswer {
+        refusal: number,
+        azimuth: 0,
+        zenith_distance: 0,
+        hour_angle: 0,
+        longitude: 0,
+    }
+}
+
 // The book's answer in those words.
-fn answer_of(outcome: Outcome) -> ShotAnswer
+pub fn answer_of(outcome: Outcome) -> ShotAnswer
     ensures { λ r. ⌜ shotAnswerValues r ≡ shotValues outcome ⌝ }
 {
     match outcome {
@@ -38,13 +51,7 @@ fn answer_of(outcome: Outcome) -> ShotAnswer
             hour_angle: a.hour_angle,
             longitude: a.longitude,
         },
-        Outcome::Refused(refusal) => ShotAnswer {
-            refusal: refusal::number_of(refusal),
-            azimuth: 0,
-            zenith_distance: 0,
-            hour_angle: 0,
-            longitude: 0,
-        },
+        Outcome::Refused(refusal) => refused(refusal::number_of(refusal)),
     }
 }
 

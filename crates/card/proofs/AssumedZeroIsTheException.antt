@@ -1,5 +1,5 @@
 -- DUT1's assumed 0 is the one exception. After any calls from the start with DUT1 assumed zero: where field f stands confirmed with n, n was heard for
--- f, read out and confirmed as proofs/ConfirmedWasReadOut.antt tells it, or f is DUT1, n is 0, and nothing was heard for DUT1. The same of the numbers
+-- f, read out and confirmed as proofs/ConfirmedWasReadOut.antt tells it, or f is DUT1, n is 0, and no hearing for DUT1 stands. The same of the numbers
 -- that a shot takes.
 use mathlib.Core.Path.{_≡_, refl, ap, _∙_}
 use mathlib.Core.Bool.{true}
@@ -11,14 +11,14 @@ use Rattle.card.specs.Confirmed.{numbersIn, numberFor, allConfirmed}
 use Rattle.card.specs.History.{Call, afterAll, HeardAmong, Story, stoodConfirmed, stoodRead, stoodHeard, wasHeard, AssumedZero}
 use Rattle.card.specs.declared.Field.the-variants.{Confirmed}
 use Rattle.card.proofs.Starts.{assumed-dut1, others-are-empty}
-use Rattle.card.proofs.ConfirmedWasReadOut.{confirmed-was-read-out, empty-was-read-out}
+use Rattle.card.proofs.ConfirmedWasReadOut.{settled-was-read-out, empty-was-read-out}
 use Rattle.card.proofs.ShotNumbersWereReadOut.{stands-confirmed}
 use Rattle.card.proofs.Clash.{clash}
 
 module _ (calls : List Call) (f n : ℤ) where
   of-dut1 : f ≡ DUT1 → fieldOf freshWithDut1AssumedZero f ≡ Confirmed (pos 0) → Story freshWithDut1AssumedZero f n calls
       → AssumedZero calls f n ⊎ HeardAmong freshWithDut1AssumedZero f n calls
-  of-dut1 d e (stoodConfirmed k q) = inl (record { field = d; number = cc; nothingHeard = q })
+  of-dut1 d e (stoodConfirmed k q) = inl (record { field = d; number = cc; nothingStands = q })
   of-dut1 d e (stoodRead k q) = clash (cc)
   of-dut1 d e (stoodHeard k q) = clash (cc)
   of-dut1 d e (wasHeard r) = inr r
@@ -26,8 +26,8 @@ module _ (calls : List Call) (f n : ℤ) where
   by-field : Dec (f ≡ DUT1) → fieldOf (afterAll freshWithDut1AssumedZero calls) f ≡ Confirmed n
       → AssumedZero calls f n ⊎ HeardAmong freshWithDut1AssumedZero f n calls
   by-field (yes d) e =
-      of-dut1 d (ap (fieldOf freshWithDut1AssumedZero) d ∙ assumed-dut1) (confirmed-was-read-out freshWithDut1AssumedZero calls f n refl e)
-  by-field (no d) e = inr (empty-was-read-out freshWithDut1AssumedZero calls f n refl (others-are-empty f d) e)
+      of-dut1 d (ap (fieldOf freshWithDut1AssumedZero) d ∙ assumed-dut1) (settled-was-read-out freshWithDut1AssumedZero calls f n refl refl e)
+  by-field (no d) e = inr (empty-was-read-out freshWithDut1AssumedZero calls f n refl refl (others-are-empty f d) e)
 
   pub assumed-zero-or-read-out : fieldOf (afterAll freshWithDut1AssumedZero calls) f ≡ Confirmed n
       → AssumedZero calls f n ⊎ HeardAmong freshWithDut1AssumedZero f n calls

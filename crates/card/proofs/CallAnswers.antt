@@ -9,9 +9,11 @@ use Rattle.exact.proofs.Choice.{was-true, was-false}
 use Rattle.digits.specs.Text.{text}
 use Rattle.digits.specs.Writing.{fits, writeAt, bufferWith}
 use Rattle.digits.specs.declared.Written.the-variants.{Bytes, NoRoom}
-use Rattle.card.specs.Fields.{isHeld, isRead, numberIn, isField, slotIndex, fieldOf, put}
-use Rattle.card.specs.Calls.{accepted, refused, writtenOut, notWritten, canBeHeard, hear, confirm, readCard, read, bufferAfter}
-use Rattle.card.specs.declared.Field.the-variants.{Heard, Confirmed}
+use Rattle.card.specs.Fields.{isHeld, isRead, numberIn, isField, slotIndex, fieldOf, put, keeping}
+use Rattle.card.specs.Calls.{accepted, refused, writtenOut, notWritten, canBeHeard, hearCard, hear, confirm, undo, readCard, read, bufferAfter}
+use Rattle.card.specs.declared.Field.{Field}
+use Rattle.card.specs.declared.Field.the-variants.{Confirmed}
+use Rattle.card.specs.declared.Latest.the-variants.{NothingToUndo, Before}
 use Rattle.card.specs.declared.Card.{Card}
 use Rattle.card.proofs.Clash.{clash}
 
@@ -23,7 +25,7 @@ module _ (c : Card) (f : ℤ) where
     pub hear-too-large : isField f ≡ true → canBeHeard z ≡ false → refused c 13 ≡ hear c f z
     hear-too-large e k = rw (e, k)
 
-    pub hear-accepted : isField f ≡ true → canBeHeard z ≡ true → accepted (put c (slotIndex f) (Heard z)) ≡ hear c f z
+    pub hear-accepted : isField f ≡ true → canBeHeard z ≡ true → accepted (hearCard c f z) ≡ hear c f z
     hear-accepted e k = rw (e, k)
 
   pub confirm-no-field : isField f ≡ false → refused c 9 ≡ confirm c f
@@ -58,3 +60,14 @@ module _ (c : Card) (f : ℤ) where
           let h = was-true (fits buffer place number) _ NoRoom (Bytes n) (λ p. clash (cc)) w in
           let m : n ≡ length (text number) = cc (h .1) in
           rw (e, k, h .0) (ap (λ n. writtenOut n (readCard c f)) m, rw (h .0) at b)
+
+  -- undoing, where the hearing for f is what is kept
+  module _ (v : Field) (l : c .latest ≡ Before f v) where
+    pub undo-no-field : isField f ≡ false → refused c 18 ≡ undo c
+    undo-no-field e = rw (l, e)
+
+    pub undo-accepted : isField f ≡ true → accepted (keeping (put c (slotIndex f) v) NothingToUndo) ≡ undo c
+    undo-accepted e = rw (l, e)
+
+pub undo-nothing : (c : Card) → c .latest ≡ NothingToUndo → refused c 18 ≡ undo c
+undo-nothing c l = rw l

@@ -1,105 +1,133 @@
--- A confirmed number was read out. After any calls from any card, in any order and of any number: where field f stands confirmed with n, n was heard
--- for f, after that its text was written out by an accepted reading, and after that it was confirmed, with nothing heard for f since that hearing.
--- What of the three did not come among the calls stood on the card already; on a fresh card nothing did, so there every confirmed number was heard, read
+-- A confirmed number was read out. After any calls from any card, in any order and of any number, undos among them: where field f stands confirmed with
+-- n, n was heard for f, which was not undone, after that its text was written out by an accepted reading, after that it was confirmed, and every hearing
+-- for f since that one was refused or undone. What of the three did not come among the calls stood on the card already; and where the calls undo a
+-- hearing for f that came before them, it stood there before that hearing. On a fresh card nothing did, so there every confirmed number was heard, read
 -- out and confirmed, with no exception.
 use mathlib.Core.Path.{_≡_, refl, sym, ap, subst, _∙_}
-use mathlib.Core.Logic.{⊎-elim}
-use mathlib.Core.List.{List, [], _∷_, List·Memᴰ·not-nil, List·Memᴰ·head, List·Memᴰ·cases-cons}
+use mathlib.Core.Bool.{Bool, true, false}
+use mathlib.Core.Logic.{_⊎_, inl, inr}
+use mathlib.Core.List.{List, [], _∷_, _++_, append-assoc}
 use lib.IntN.{ℤ}
-use Rattle.digits.specs.Text.{text}
-use Rattle.digits.specs.Writing.{over}
-use Rattle.card.specs.Fields.{fieldOf, Full, freshCard}
-use Rattle.card.specs.Calls.{bufferAfter}
-use Rattle.card.specs.History.{Call, hear, after, refusal, afterAll, NothingHeard, AcceptedAmong, ConfirmedAmong, ReadOutAmong, HeardAmong, Story, stoodConfirmed, stoodRead, stoodHeard, wasHeard}
+use Rattle.card.specs.Fields.{isField, fieldOf, Full, freshCard}
 use Rattle.card.specs.declared.Field.{Field}
-use Rattle.card.specs.declared.Field.the-variants.{Empty, Heard, Read, Confirmed}
+use Rattle.card.specs.declared.Field.the-variants.{Empty, Confirmed}
+use Rattle.card.specs.declared.Latest.{Latest}
+use Rattle.card.specs.declared.Latest.the-variants.{NothingToUndo, Before}
 use Rattle.card.specs.declared.Card.{Card}
-use Rattle.card.proofs.OneCall.{Effect, heard, readOut, confirmed, kept, effect, after-length}
-use Rattle.card.proofs.Starts.{fresh-is-empty}
+use Rattle.card.proofs.FieldNumbers.{no-field}
 use Rattle.card.proofs.Clash.{clash}
+use Rattle.card.specs.History.{Call, undo, after, afterAll, isUndone, leavesUndo, NothingStands, HeardAmong, Story, stoodConfirmed, stoodRead, stoodHeard, wasHeard, PutBackAmong}
+use Rattle.card.proofs.OneCall.{Passes, stays, gone, Effect, heard, readOut, confirmed, undone, kept, effect, after-full}
+use Rattle.card.proofs.Histories.{after-append, up-to-undo, nothing-between, no-calls, one-call}
+use Rattle.card.proofs.Stories.{longer, told-heard, told-read, told-confirmed}
+use Rattle.card.proofs.Starts.{fresh-is-empty}
 
-no-calls : (f : ℤ) → NothingHeard f []
-no-calls f c n m = absurd (List·Memᴰ·not-nil m)
+-- the calls do not undo a hearing for f that came before them, and there is the story; or they do, and it goes on after the undo
+abbrev NotUndone : Card → ℤ → List Call → Type 0
+NotUndone c f calls = (v : Field) → c .latest ≡ Before f v → isUndone calls ≡ false
 
--- one call more, in front of the others: it is the call that is looked for, or that one comes later
-module _ (c : Card) (x : Call) {calls : List Call} {y : Call} where
-  first : x ≡ y → refusal c x ≡ 0 → AcceptedAmong c y (x ∷ calls)
-  unfolding afterAll
-  first e r = record { earlier = []; later = calls; order = ap (λ y. y ∷ calls) e; accepts = subst (λ y. refusal c y ≡ 0) e r }
+data Told (c : Card) (f n : ℤ) (calls : List Call) : Type 0 where
+  goesOn : NotUndone c f calls → Story c f n calls → Told c f n calls
+  putBack : PutBackAmong c f n calls → Told c f n calls
 
-  longer : AcceptedAmong (after c x) y calls → AcceptedAmong c y (x ∷ calls)
-  unfolding afterAll
-  longer a = record { earlier = x ∷ a .earlier; later = a .later; order = ap (λ l. x ∷ l) (a .order); accepts = a .accepts }
+module _ (c : Card) (f n : ℤ) (x : Call) (calls : List Call) where
+  -- a call in front that leaves what is kept, or after which no hearing for f is kept
+  still-not-undone : Passes c f x (after c x .latest) → NotUndone (after c x) f calls → NotUndone c f (x ∷ calls)
+  unfolding isUndone
+  still-not-undone (stays e l) u v k = rw e (u v (l ∙ k))
+  still-not-undone (gone h k) u v q = k v calls q
 
--- a call that leaves field f: what came after it still did
-module _ (c : Card) (f : ℤ) (x : Call) (h : NothingHeard f (x ∷ [])) where
-  quiet-longer : {l : List Call} → NothingHeard f l → NothingHeard f (x ∷ l)
-  quiet-longer k d n m = ⊎-elim (λ e. h d n (List·Memᴰ·head e)) (k d n) (List·Memᴰ·cases-cons m)
-
-  confirmed-longer : {calls : List Call} → ConfirmedAmong (after c x) f calls → ConfirmedAmong c f (x ∷ calls)
-  unfolding afterAll longer
-  confirmed-longer r = record { call = longer c x (r .call); quiet = (quiet-longer (r .quiet .0), r .quiet .1) }
-
-  read-longer : {n : ℤ} {calls : List Call} → ReadOutAmong (after c x) f n calls → ReadOutAmong c f n (x ∷ calls)
-  unfolding afterAll longer
-  read-longer r = record {
-    buffer = r .buffer;
-    place = r .place;
-    call = longer c x (r .call);
-    shown = r .shown;
-    quiet = quiet-longer (r .quiet);
-    confirmed = r .confirmed;
+  still-put-back : Passes c f x (after c x .latest) → PutBackAmong (after c x) f n calls → PutBackAmong c f n (x ∷ calls)
+  unfolding afterAll leavesUndo
+  still-put-back (stays e l) b = record {
+    between = x ∷ b .between;
+    rest = b .rest;
+    order = ap (λ l. x ∷ l) (b .order);
+    leaves = rw e (b .leaves);
+    before = b .before;
+    kept = sym l ∙ b .kept;
+    back = b .back;
+    story = b .story;
   }
+  still-put-back (gone h k) b = absurd (h (b .before) (b .kept))
 
--- the effect of the first call, and the story of the others
-tell : (c : Card) (f n : ℤ) (x : Call) {calls : List Call} {v : Field} → v ≡ fieldOf (after c x) f → Effect c f x v → Story (after c x) f n calls
-    → Story c f n (x ∷ calls)
-unfolding afterAll first longer
-tell c f n x g w (wasHeard r) = wasHeard (record { call = longer c x (r .call); readOut = r .readOut })
-tell c f n x g (heard m e r t w) (stoodConfirmed k q) = clash (cc)
-tell c f n x g (heard m e r t w) (stoodRead k q) = clash (cc)
-tell c f n x {calls} g (heard m e r t w) (stoodHeard k q) =
-    let y : x ≡ hear f n = (let z : m ≡ n = cc in e ∙ ap (hear f) z) in
-    wasHeard (record { call = first c x y r; readOut = subst (λ y. ReadOutAmong (after c y) f n calls) y q })
-tell c f n x g (readOut m buffer place e r b h w) (stoodConfirmed k q) = clash (cc)
-tell c f n x {calls} g (readOut m buffer place e r b h w) (stoodRead k q) =
-    let z : m ≡ n = cc in
-    stoodHeard (h ∙ ap Heard z)
-    (record {
-      buffer = buffer;
-      place = place;
-      call = first c x e r;
-      shown = subst (λ k. bufferAfter c f buffer place ≡ over buffer place (text k)) z b;
-      quiet = no-calls f;
-      confirmed = subst (λ y. ConfirmedAmong (after c y) f calls) e q;
-    })
-tell c f n x g (readOut m buffer place e r b h w) (stoodHeard k q) = clash (cc)
-tell c f n x g (confirmed m e r h w) (stoodConfirmed k q) =
-    let z : m ≡ n = cc in stoodRead (h ∙ ap Read z) (record { call = first c x e r; quiet = (no-calls f, q) })
-tell c f n x g (confirmed m e r h w) (stoodRead k q) = clash (cc)
-tell c f n x g (confirmed m e r h w) (stoodHeard k q) = clash (cc)
-tell c f n x g (kept h w) (stoodConfirmed k q) = stoodConfirmed (sym w ∙ g ∙ k) (quiet-longer c f x h q)
-tell c f n x g (kept h w) (stoodRead k q) = stoodRead (sym w ∙ g ∙ k) (confirmed-longer c f x h q)
-tell c f n x g (kept h w) (stoodHeard k q) = stoodHeard (sym w ∙ g ∙ k) (read-longer c f x h q)
+  -- a hearing that is undone is as if it had never been: the story goes on after the undo
+  past-undo : after c x .latest ≡ Before f (fieldOf c f) → PutBackAmong (after c x) f n calls → Story c f n (x ∷ calls)
+  unfolding afterAll NothingStands
+  past-undo l b =
+      let front = b .between ++ undo ∷ [] in
+      let whole : calls ≡ front ++ b .rest = b .order ∙ simp append-assoc in
+      let there : afterAll (after c x) front ≡ after (afterAll (after c x) (b .between)) undo = after-append (after c x) (b .between) (undo ∷ []) in
+      let same : b .before ≡ fieldOf c f = (let q = sym (b .kept) ∙ l in cc) in
+      subst (Story c f n) (ap (λ l. x ∷ l) (sym whole))
+      (longer c f (x ∷ front) (λ m e t. up-to-undo (b .between) [] (b .leaves), nothing-between f (b .between) (b .leaves))
+      (ap (λ d. fieldOf d f) there ∙ b .back ∙ same)
+      (subst (λ d. Story d f n (b .rest)) (sym there) (b .story)))
+
+  -- the effect of the first call, and the story of the others
+  tell : Effect c f x (fieldOf (after c x) f) (after c x .latest) → Told (after c x) f n calls → Told c f n (x ∷ calls)
+  unfolding afterAll isUndone leavesUndo
+  tell (heard m e r t w l) (goesOn u s) = goesOn (λ v k. rw (e, t)) (told-heard c f n x calls m e r w (u _ l) s)
+  tell (heard m e r t w l) (putBack b) = goesOn (λ v k. rw (e, t)) (past-undo l b)
+  tell (readOut m buffer place e r b h w p) (goesOn u s) = goesOn (still-not-undone p u) (told-read c f n x calls m buffer place e r b h w s)
+  tell (readOut m buffer place e r b h w p) (putBack k) = putBack (still-put-back p k)
+  tell (confirmed m e r h w p) (goesOn u s) = goesOn (still-not-undone p u) (told-confirmed c f n x calls m e r h w s)
+  tell (confirmed m e r h w p) (putBack k) = putBack (still-put-back p k)
+  tell (undone e k l) (goesOn u s) =
+      putBack
+      (record {
+        between = [];
+        rest = calls;
+        order = ap (λ y. y ∷ calls) e;
+        leaves = refl;
+        before = fieldOf (after c x) f;
+        kept = k;
+        back = ap (λ y. fieldOf (after c y) f) (sym e);
+        story = subst (λ y. Story (after c y) f n calls) e s;
+      })
+  tell (undone e k l) (putBack b) = let z = sym l ∙ b .kept in clash (cc)
+  tell (kept h w p) (goesOn u s) = goesOn (still-not-undone p u) (longer c f (x ∷ []) (one-call f x h) w s)
+  tell (kept h w p) (putBack b) = putBack (still-put-back p b)
+
+told : (c : Card) (calls : List Call) (f n : ℤ) → Full c → isField f ≡ true → fieldOf (afterAll c calls) f ≡ Confirmed n → Told c f n calls
+unfolding afterAll isUndone
+told c [] f n full i e = goesOn (λ v k. refl) (stoodConfirmed e (no-calls f))
+told c (x ∷ calls) f n full i e = tell c f n x calls (effect c f x full i) (told (after c x) calls f n (after-full c x full) i e)
 
 -- ---- from any card
-pub confirmed-was-read-out : (c : Card) (calls : List Call) (f n : ℤ) → Full c → fieldOf (afterAll c calls) f ≡ Confirmed n → Story c f n calls
-unfolding afterAll
-confirmed-was-read-out c [] f n l e = stoodConfirmed e (no-calls f)
-confirmed-was-read-out c (x ∷ calls) f n l e =
-    tell c f n x refl (effect c f x l) (confirmed-was-read-out (after c x) calls f n (after-length c x ∙ l) e)
+-- a number that no field has is as good as empty
+confirmed-at : (c : Card) (f n : ℤ) (b : Bool) → isField f ≡ b → fieldOf c f ≡ Confirmed n → isField f ≡ true
+confirmed-at c f n false i e = let z = no-field f i c in clash (cc)
+confirmed-at c f n true i e = i
 
--- ---- of a field that was empty at the start
+either : {c : Card} {f n : ℤ} {calls : List Call} → Told c f n calls → Story c f n calls ⊎ PutBackAmong c f n calls
+either (goesOn u s) = inl s
+either (putBack b) = inr b
+
+pub confirmed-was-read-out : (c : Card) (calls : List Call) (f n : ℤ) → Full c → fieldOf (afterAll c calls) f ≡ Confirmed n
+    → Story c f n calls ⊎ PutBackAmong c f n calls
+confirmed-was-read-out c calls f n full e =
+    either (told c calls f n full (confirmed-at (afterAll c calls) f n (isField f) refl e) e)
+
+-- ---- from a card on which there is nothing to undo
 module _ (c : Card) (calls : List Call) (f n : ℤ) where
+  from-settled : c .latest ≡ NothingToUndo → Story c f n calls ⊎ PutBackAmong c f n calls → Story c f n calls
+  from-settled l (inl s) = s
+  from-settled l (inr b) = let z = sym l ∙ b .kept in clash (cc)
+
+  pub settled-was-read-out : Full c → c .latest ≡ NothingToUndo → fieldOf (afterAll c calls) f ≡ Confirmed n → Story c f n calls
+  settled-was-read-out full l e = from-settled l (confirmed-was-read-out c calls f n full e)
+
+  -- of a field that was empty there
   from-empty : fieldOf c f ≡ Empty → Story c f n calls → HeardAmong c f n calls
   from-empty e (stoodConfirmed k q) = clash (cc)
   from-empty e (stoodRead k q) = clash (cc)
   from-empty e (stoodHeard k q) = clash (cc)
   from-empty e (wasHeard r) = r
 
-  pub empty-was-read-out : Full c → fieldOf c f ≡ Empty → fieldOf (afterAll c calls) f ≡ Confirmed n → HeardAmong c f n calls
-  empty-was-read-out l e k = from-empty e (confirmed-was-read-out c calls f n l k)
+  pub empty-was-read-out : Full c → c .latest ≡ NothingToUndo → fieldOf c f ≡ Empty → fieldOf (afterAll c calls) f ≡ Confirmed n → HeardAmong c f n calls
+  empty-was-read-out full l e k = from-empty e (settled-was-read-out full l k)
 
 -- ---- from a fresh card, on which every field is empty
 pub fresh-was-read-out : (calls : List Call) (f n : ℤ) → fieldOf (afterAll freshCard calls) f ≡ Confirmed n → HeardAmong freshCard f n calls
-fresh-was-read-out calls f n = empty-was-read-out freshCard calls f n refl (fresh-is-empty f)
+fresh-was-read-out calls f n = empty-was-read-out freshCard calls f n refl refl (fresh-is-empty f)

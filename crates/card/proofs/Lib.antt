@@ -3,8 +3,10 @@ pub mod ConfirmedWasReadOut
 pub mod AssumedZeroIsTheException
 pub mod UnreadNeverConfirmed
 pub mod ShotNumbersWereReadOut
+pub mod UndoPutsBack
 pub mod HeldNumbersAreSmall
 pub mod ReadingsAreShort
+pub mod SmallHistories
 pub mod CallAnswers
 pub mod Clash
 pub mod FieldNumbers
@@ -12,3 +14,4 @@ pub mod Histories
 pub mod OneCall
 pub mod Starts
 pub mod States
+pub mod Stories

@@ -32,7 +32,7 @@ not-eleven c true true true v e h q = omega arith
 -- ---- from any card whose numbers are small
 module _ (c : Card) (small : HeldSmall c) (f : ℤ) (buffer : List ℕ) (place : ℕ) where
   text-short : length (text (numberIn (fieldOf c f))) ≤ 15
-  text-short = at-most-fifteen (numberIn (fieldOf c f)) (small f)
+  text-short = at-most-fifteen (numberIn (fieldOf c f)) (small .0 f)
 
   pub reading-is-short : read c f buffer place .length ≤ 15
   reading-is-short =

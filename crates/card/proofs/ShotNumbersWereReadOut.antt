@@ -2,6 +2,7 @@
 -- has its story, as proofs/ConfirmedWasReadOut.antt tells it. From a fresh card: it was heard for that field, read out and confirmed.
 use mathlib.Core.Path.{_≡_, sym, ap, _∙_}
 use mathlib.Core.Bool.{true}
+use mathlib.Core.Logic.{_⊎_}
 use mathlib.Core.List.{List, [], _∷_}
 use Prim.Native.Nat.{ℕ, zero, suc, _+_, _<_}
 use native.Mathlib.Omega.{arith}
@@ -10,7 +11,7 @@ use lib.ListN.{length, getD, List·getD-map}
 use Rattle.exact.proofs.Machine.{and-true}
 use Rattle.card.specs.Fields.{isConfirmed, numberIn, fieldCount, isField, slotIndex, fieldAt, fieldOf, Full, freshCard}
 use Rattle.card.specs.Confirmed.{fieldsFrom, fieldsOf, numbersIn, numberFor, everyConfirmed, allConfirmed}
-use Rattle.card.specs.History.{Call, afterAll, HeardAmong, Story}
+use Rattle.card.specs.History.{Call, afterAll, HeardAmong, Story, PutBackAmong}
 use Rattle.card.specs.declared.Field.{Field}
 use Rattle.card.specs.declared.Field.the-variants.{Empty, Confirmed}
 use Rattle.card.specs.declared.Card.{Card}
@@ -47,7 +48,8 @@ module _ (c : Card) (f : ℤ) (e : isField f ≡ true) where
 
 -- ---- from any card
 pub shot-numbers-were-read-out : (c : Card) (calls : List Call) → Full c → allConfirmed (afterAll c calls) ≡ true
-    → (f : ℤ) → isField f ≡ true → Story c f (numberFor (numbersIn (afterAll c calls)) f) calls
+    → (f : ℤ) → isField f ≡ true
+    → (Story c f (numberFor (numbersIn (afterAll c calls)) f) calls ⊎ PutBackAmong c f (numberFor (numbersIn (afterAll c calls)) f) calls)
 shot-numbers-were-read-out c calls l all f e =
     let d = afterAll c calls in
     confirmed-was-read-out c calls f (numberFor (numbersIn d) f) l (stands-confirmed d f e all)

@@ -7,6 +7,7 @@ use lib.ListN.{getD-replicate}
 use Rattle.exact.specs.Range.{between}
 use Rattle.card.specs.Fields.{fieldCount, isField, slotIndex, slot, fieldOf, freshCard, DUT1, freshWithDut1AssumedZero}
 use Rattle.card.specs.declared.Field.the-variants.{Empty, Confirmed}
+use Rattle.card.specs.declared.Latest.the-variants.{NothingToUndo}
 use Rattle.card.proofs.FieldNumbers.{index-below, field-found, no-field}
 use Rattle.card.proofs.OneCall.{put-other}
 
@@ -28,4 +29,4 @@ unfolding between
 dut1-is-field = refl
 
 pub others-are-empty : (f : ℤ) → f ≢ DUT1 → fieldOf freshWithDut1AssumedZero f ≡ Empty
-others-are-empty f n = put-other freshCard f DUT1 (Confirmed (pos 0)) (isField f) refl dut1-is-field n ∙ fresh-is-empty f
+others-are-empty f n = put-other freshCard f DUT1 (Confirmed (pos 0)) NothingToUndo dut1-is-field n ∙ fresh-is-empty f

@@ -1,51 +1,74 @@
--- A number heard anew is never confirmed unread. From any card: after an accepted hearing for field f, as long as no reading of f is accepted, f does
--- not stand confirmed, with any number.
-use mathlib.Core.Path.{_≡_, refl, sym, ap, _∙_}
-use mathlib.Core.Logic.{_≢_}
-use mathlib.Core.List.{List, _∷_, _++_, append-assoc, List·Memᴰ·head}
+-- A number heard anew is never confirmed unread, undo or not. From any card: after an accepted hearing for field f, as long as no reading of f is
+-- accepted, f stands confirmed only where that hearing was undone, and then with the number that was read out for f before the hearing.
+use mathlib.Core.Path.{_≡_, refl, sym, ap, subst, _∙_}
+use mathlib.Core.Bool.{true}
+use mathlib.Core.Logic.{_⊎_, inl, inr}
+use mathlib.Core.List.{List, [], _∷_, _++_, append-assoc}
 use lib.IntN.{ℤ}
 use Rattle.card.specs.Fields.{fieldOf, Full, freshCard}
-use Rattle.card.specs.History.{Call, hear, read, after, refusal, afterAll, NothingReadOut, Story, stoodConfirmed, stoodRead, stoodHeard, wasHeard}
 use Rattle.card.specs.declared.Field.{Field}
-use Rattle.card.specs.declared.Field.the-variants.{Heard, Confirmed}
+use Rattle.card.specs.declared.Field.the-variants.{Heard, Read, Confirmed}
 use Rattle.card.specs.declared.Card.{Card}
-use Rattle.card.proofs.ConfirmedWasReadOut.{confirmed-was-read-out}
-use Rattle.card.proofs.OneCall.{Effect, heard, readOut, confirmed, kept, effect, after-length}
-use Rattle.card.proofs.Histories.{after-append, stays-full}
 use Rattle.card.proofs.Clash.{clash}
+use Rattle.card.specs.History.{Call, hear, read, undo, after, refusal, afterAll, isUndone, NothingReadOut, WasReadOn, Story, stoodConfirmed, stoodRead, stoodHeard, wasHeard, PutBackAmong}
+use Rattle.card.proofs.OneCall.{after-full}
+use Rattle.card.proofs.Histories.{after-append, stays-full, up-to-undo}
+use Rattle.card.proofs.UndoPutsBack.{now-heard, now-kept}
+use Rattle.card.proofs.ConfirmedWasReadOut.{confirmed-was-read-out}
 
--- a hearing that is accepted is heard
-now-heard : (c : Card) (f n : ℤ) {v : Field} → refusal c (hear f n) ≡ 0 → Effect c f (hear f n) v → (m : ℤ) × (v ≡ Heard m)
-now-heard c f n r (heard m e q t w) = (m, w)
-now-heard c f n r (readOut m buffer place e q b k w) = clash (cc)
-now-heard c f n r (confirmed m e q k w) = clash (cc)
-now-heard c f n r (kept q w) = absurd (q c n (List·Memᴰ·head refl) r)
-
--- the story of a field that was heard has a reading in it
-no-story : (c : Card) (f m : ℤ) (calls : List Call) {k : ℤ} → fieldOf c f ≡ Heard k → NothingReadOut c f calls → Story c f m calls → ⊥
+-- a story without an accepted reading: the number was read out on the card already
+unread-story : (c : Card) (f m : ℤ) (calls : List Call) → NothingReadOut c f calls → Story c f m calls → WasReadOn c f m
 unfolding afterAll
-no-story c f m calls h unread (stoodConfirmed e q) = clash (cc)
-no-story c f m calls h unread (stoodRead e q) = clash (cc)
-no-story c f m calls h unread (stoodHeard e r) = let a = r .call in unread (a .earlier) (a .later) (r .buffer) (r .place) (a .order) (a .accepts)
-no-story c f m calls h unread (wasHeard r) =
+unread-story c f m calls unread (stoodConfirmed e q) = inr e
+unread-story c f m calls unread (stoodRead e q) = inl e
+unread-story c f m calls unread (stoodHeard e r) =
+    let a = r .call in absurd (unread (a .earlier) (a .later) (r .buffer) (r .place) (a .order) (a .accepts))
+unread-story c f m calls unread (wasHeard r) =
     let o = r .readOut in
     let a = r .call in
     let b = o .call in
-    unread (a .earlier ++ hear f m ∷ b .earlier) (b .later) (o .buffer) (o .place)
+    absurd
+    (unread (a .earlier ++ hear f m ∷ b .earlier) (b .later) (o .buffer) (o .place)
     (a .order ∙ ap (λ l. a .earlier ++ hear f m ∷ l) (b .order) ∙ simp append-assoc)
-    (ap (λ d. refusal d (read f (o .buffer) (o .place))) (after-append c (a .earlier) (hear f m ∷ b .earlier)) ∙ b .accepts)
+    (ap (λ d. refusal d (read f (o .buffer) (o .place))) (after-append c (a .earlier) (hear f m ∷ b .earlier)) ∙ b .accepts))
 
-pub unread-never-confirmed : (c : Card) (f n m : ℤ) (later : List Call) → Full c → refusal c (hear f n) ≡ 0
-    → NothingReadOut (after c (hear f n)) f later → fieldOf (afterAll c (hear f n ∷ later)) f ≢ Confirmed m
-unfolding afterAll
-unread-never-confirmed c f n m later l r unread e =
-    let d = after c (hear f n) in
-    no-story d f m later (now-heard c f n r (effect c f (hear f n) l) .1) unread
-    (confirmed-was-read-out d later f m (after-length c (hear f n) ∙ l) e)
+-- calls after others: no reading of f is accepted among them either
+later-unread : (c : Card) (f : ℤ) (calls front rest : List Call) → calls ≡ front ++ rest → NothingReadOut c f calls → NothingReadOut (afterAll c front) f rest
+later-unread c f calls front rest o unread earlier later buffer place e r =
+    unread (front ++ earlier) later buffer place (o ∙ ap (λ l. front ++ l) e ∙ simp append-assoc)
+    (ap (λ d. refusal d (read f buffer place)) (after-append c front earlier) ∙ r)
+
+-- a heard field was not read out
+heard-unread : (v : Field) {k m : ℤ} → v ≡ Heard k → (v ≡ Read m) ⊎ (v ≡ Confirmed m) → ⊥
+heard-unread v h (inl e) = clash (cc)
+heard-unread v h (inr e) = clash (cc)
+
+module _ (c : Card) (f n m : ℤ) (later : List Call) (full : Full c) (r : refusal c (hear f n) ≡ 0) (unread : NothingReadOut (after c (hear f n)) f later) where
+  abbrev heardCard : Card
+  heardCard = after c (hear f n)
+
+  by-story : Story heardCard f m later ⊎ PutBackAmong heardCard f m later → (isUndone later ≡ true) × WasReadOn c f m
+  unfolding afterAll
+  by-story (inl s) = absurd (heard-unread (fieldOf heardCard f) (now-heard c f n full r) (unread-story heardCard f m later unread s))
+  by-story (inr b) =
+      let front = b .between ++ undo ∷ [] in
+      let whole : later ≡ front ++ b .rest = b .order ∙ simp append-assoc in
+      let there = after-append heardCard (b .between) (undo ∷ []) in
+      let same : b .before ≡ fieldOf c f = (let q = sym (b .kept) ∙ now-kept c f n full r in cc) in
+      let u = subst (λ d. NothingReadOut d f (b .rest)) there (later-unread heardCard f later front (b .rest) whole unread) in (
+        ap isUndone (b .order) ∙ up-to-undo (b .between) (b .rest) (b .leaves),
+        subst (λ (v : Field). (v ≡ Read m) ⊎ (v ≡ Confirmed m)) (b .back ∙ same)
+            (unread-story (after (afterAll heardCard (b .between)) undo) f m (b .rest) u (b .story)),
+      )
+
+  pub unread-never-confirmed : fieldOf (afterAll c (hear f n ∷ later)) f ≡ Confirmed m → (isUndone later ≡ true) × WasReadOn c f m
+  unfolding afterAll
+  unread-never-confirmed e = by-story (confirmed-was-read-out heardCard later f m (after-full c (hear f n) full) e)
 
 -- from a fresh card, after any calls
 pub fresh-unread-never-confirmed : (calls : List Call) (f n m : ℤ) (later : List Call) → refusal (afterAll freshCard calls) (hear f n) ≡ 0
-    → NothingReadOut (after (afterAll freshCard calls) (hear f n)) f later → fieldOf (afterAll freshCard (calls ++ hear f n ∷ later)) f ≢ Confirmed m
+    → NothingReadOut (after (afterAll freshCard calls) (hear f n)) f later → fieldOf (afterAll freshCard (calls ++ hear f n ∷ later)) f ≡ Confirmed m
+    → (isUndone later ≡ true) × WasReadOn (afterAll freshCard calls) f m
 fresh-unread-never-confirmed calls f n m later r unread e =
     unread-never-confirmed (afterAll freshCard calls) f n m later (stays-full freshCard calls refl) r unread
     (ap (λ d. fieldOf d f) (sym (after-append freshCard calls (hear f n ∷ later))) ∙ e)

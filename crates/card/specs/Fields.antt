@@ -1,7 +1,8 @@
--- Document 01, "The card"; document 02, requests 3 (field 11) and 4 (the start) (RULES.md, "Fields" and "The card"): the card, its fields, their states
--- and what stands on it at the start.
+-- Document 01, "The card"; document 02, requests 3 (field 11), 4 (the start) and 6 (undo) (RULES.md, "Fields" and "The card"): the card, its fields,
+-- their states, what it keeps for an undo, and what stands on it at the start.
 use mathlib.Core.Path.{_≡_}
 use mathlib.Core.Bool.{Bool, true, false, cond}
+use mathlib.Core.List.{List}
 use Prim.Native.Nat.{ℕ, _-_}
 use lib.IntN.{ℤ, pos, natAbs}
 use lib.ListN.{length, getD, set, replicate}
@@ -9,6 +10,8 @@ use Rattle.exact.specs.Range.{between}
 use Rattle.card.specs.declared.Field.{Field}
 use Rattle.card.specs.declared.Field.the-variants.{Empty, Heard, Read, Confirmed}
 use Rattle.card.specs.declared.Slot.{Slot}
+use Rattle.card.specs.declared.Latest.{Latest}
+use Rattle.card.specs.declared.Latest.the-variants.{NothingToUndo}
 use Rattle.card.specs.declared.Card.{Card}
 
 -- ---- the states of a field
@@ -61,20 +64,27 @@ fieldAt c i = getD (c .slots) i (slot Empty) .field
 unfoldable pub fieldOf : Card → ℤ → Field
 fieldOf c f = cond (isField f) (fieldAt c (slotIndex f)) Empty
 
--- the card with another field at an index
+-- the card with another field at an index, and with something else to undo
 abbrev pub put : Card → ℕ → Field → Card
-put c i f = record { slots = set (c .slots) i (slot f) }
+put c i f = record { slots = set (c .slots) i (slot f); latest = c .latest }
+
+abbrev pub keeping : Card → Latest → Card
+keeping c l = record { slots = c .slots; latest = l }
+
+-- a card of its parts
+abbrev pub cardOfParts : List Slot → Latest → Card
+cardOfParts slots l = record { slots = slots; latest = l }
 
 -- a card has a slot for each field. In the code the array's type says so
 abbrev pub Full : Card → Type 0
 Full c = length (c .slots) ≡ fieldCount
 
 -- ---- the start
--- every field is empty
+-- every field is empty, and there is nothing to undo
 abbrev pub freshCard : Card
-freshCard = record { slots = replicate fieldCount (slot Empty) }
+freshCard = record { slots = replicate fieldCount (slot Empty); latest = NothingToUndo }
 
--- the start before request 4: DUT1, field 7, stands confirmed as 0 ms, and every other field is empty
+-- the start before request 4: DUT1, field 7, stands confirmed as 0 ms, every other field is empty, and there is nothing to undo
 abbrev pub DUT1 : ℤ
 DUT1 = pos 7
 

@@ -1,5 +1,5 @@
-// The card of spoken fields. Document 01, "The card"; document 02, requests 3 (field 11) and 4 (the start). A number counts only after it was
-// heard, read out and confirmed. The calls take a card by value and answer the card afterwards; a refused call answers the card as it was.
+// The card of spoken fields. Document 01, "The card"; document 02, requests 3 (field 11), 4 (the start) and 6 (undo). A number counts only after
+// it was heard, read out and confirmed. The calls take a card by value and answer the card afterwards; a refused call answers the card as it was.
 use digits::Written;
 use refusal::Refusal;
 use refusal::Verdict;
@@ -8,8 +8,8 @@ ghost use mathlib.Core.Bool.{true};
 ghost use Prim.Native.Nat.{_<_, _^_};
 ghost use lib.IntN.{natAbs};
 ghost use Rattle.refusal.specs.RefusalNumbers.{verdictNumber};
-ghost use Rattle.card.specs.Fields.{isHeld, numberIn, fieldCount, isField, slotIndex, fieldAt, fieldOf, put, freshCard, freshWithDut1AssumedZero};
-ghost use Rattle.card.specs.Calls.{cardValues, readingValues, readValues, hear, confirm, readState, read, bufferAfter};
+ghost use Rattle.card.specs.Fields.{isHeld, numberIn, fieldCount, isField, slotIndex, fieldAt, fieldOf, put, keeping, cardOfParts, freshCard, freshWithDut1AssumedZero};
+ghost use Rattle.card.specs.Calls.{cardValues, readingValues, readValues, hear, confirm, undo, readState, read, bufferAfter};
 ghost use Rattle.card.specs.Confirmed.{confirmedValues, confirmedNumbers};
 
 // How many fields a card has.
@@ -19,7 +19,7 @@ pub const FIELDS: usize = 11;
 const DUT1: usize = 6;
 
 // The largest magnitude of a number that can be heard: seven digits, in the units of its field.
-const LARGEST_HEARD: i64 = 9_999_999;
+pub const LARGEST_HEARD: i64 = 9_999_999;
 
 // The state of a field. All but an empty one hold a number.
 pub enum Field {
@@ -30,16 +30,23 @@ pub enum Field {
 }
 
 pub struct Slot {
-    field: Field,
+    pub field: Field,
+}
+
+// What an undo puts back: the latest accepted hearing was for the field of this number, and this is what the field was before it.
+pub enum Latest {
+    NothingToUndo,
+    Before(i64, Field),
 }
 
 // A card is made by one of the two starts and changed by the calls alone: its fields are not public, so that no caller writes a confirmed
-// number into it.
+// number into it, or into what an undo puts back. (`card_of_parts` is for crate `card_words` alone.)
 pub struct Card {
     slots: [Slot; FIELDS],
+    latest: Latest,
 }
 
-// What hearing and confirming answer.
+// What hearing, confirming and undoing answer.
 pub struct CardAnswer {
     pub verdict: Verdict,
     pub card: Card,
@@ -66,7 +73,7 @@ pub struct ConfirmedNumbers {
 }
 
 // Whether a field has this number.
-fn is_field(field: i64) -> bool
+pub fn is_field(field: i64) -> bool
     ensures { λ r. ⌜ r ≡ isField field ⌝ }
 {
     exact::between(1, field, FIELDS as i64)
@@ -91,7 +98,7 @@ fn is_held(field: Field) -> bool
 }
 
 // The number that a field holds. Of an empty one it is 0, which nobody uses.
-fn number_in(field: Field) -> i64
+pub fn number_in(field: Field) -> i64
     ensures { λ r. ⌜ r ≡ numberIn field ⌝ }
 {
     match field {
@@ -113,7 +120,7 @@ fn read_state(field: Field) -> Field
 }
 
 // The field at an index of the card.
-fn field_at(card: Card, i: usize) -> Field
+pub fn field_at(card: Card, i: usize) -> Field
     requires { ⌜ i < fieldCount ⌝ }
     ensures { λ r. ⌜ r ≡ fieldAt card i ⌝ }
 {
@@ -131,7 +138,15 @@ fn put(card: Card, i: usize, field: Field) -> Card
     next
 }
 
-// A fresh card: every field is empty.
+// The card with something else to undo.
+fn keeping(card: Card, latest: Latest) -> Card
+    ensures { λ r. ⌜ r ≡ keeping card latest ⌝ }
+{
+    let slots = card.slots;
+    card_of_parts(slots, latest)
+}
+
+// A fresh card: every field is empty, and there is nothing to undo.
 pub fn fresh() -> Card
     ensures { λ r. ⌜ r ≡ freshCard ⌝ }
 {
@@ -139,7 +154,10 @@ pub fn fresh() -> Card
         field: Field::Empty,
     };
     let slots = [empty; FIELDS];
-    Card { slots: slots }
+    Card {
+        slots: slots,
+        latest: Latest::NothingToUndo,
+    }
 }
 
 // The start before request 4, for programs elsewhere that rely on it: DUT1 stands confirmed as 0 ms, though nobody has said so, and every
@@ -148,6 +166,24 @@ pub fn fresh_with_dut1_assumed_zero() -> Card
     ensures { λ r. ⌜ r ≡ freshWithDut1AssumedZero ⌝ }
 {
     put(fresh(), DUT1, Field::Confirmed(0))
+}
+
+// A card of its parts, whatever they are. Only crate `card_words` may use it, for a card that somebody else keeps
+// (compare/restored-card).
+pub fn card_of_parts(slots: [Slot; FIELDS], latest: Latest) -> Card
+    ensures { λ r. ⌜ r ≡ cardOfParts slots latest ⌝ }
+{
+    Card {
+        slots: slots,
+        latest: latest,
+    }
+}
+
+// What an undo puts back.
+pub fn latest_of(card: Card) -> Latest
+    ensures { λ r. ⌜ r ≡ card .latest ⌝ }
+{
+    card.latest
 }
 
 // The answers, put together.
@@ -160,7 +196,7 @@ fn card_answer(verdict: Verdict, card: Card) -> CardAnswer
     }
 }
 
-// Hears a number into a field, whatever stood there. Refusals 9, 13.
+// Hears a number into a field, whatever stood there; that is kept for an undo. Refusals 9, 13.
 pub fn hear(card: Card, field: i64, number: i64) -> CardAnswer
     ensures { λ r. ⌜ cardValues r ≡ hear card field number ⌝ }
 {
@@ -171,7 +207,12 @@ pub fn hear(card: Card, field: i64, number: i64) -> CardAnswer
         return card_answer(Verdict::Refused(Refusal::TooLarge), card);
     }
     let i = slot_index(field);
-    card_answer(Verdict::Accepted, put(card, i, Field::Heard(number)))
+    let before = field_at(card, i);
+    let heard = put(card, i, Field::Heard(number));
+    card_answer(
+        Verdict::Accepted,
+        keeping(heard, Latest::Before(field, before)),
+    )
 }
 
 fn read_answer(reading: Reading, card: Card) -> ReadAnswer
@@ -216,6 +257,23 @@ pub fn confirm(card: Card, field: i64) -> CardAnswer
         return card_answer(Verdict::Refused(Refusal::NotRead), card);
     };
     card_answer(Verdict::Accepted, put(card, i, Field::Confirmed(number)))
+}
+
+// Undoes the latest accepted hearing: its field is again what it was before, state and number, whatever was read or confirmed since, and every
+// other field stays. Then there is nothing to undo until the next accepted hearing. Refusal 18. (A hearing keeps only numbers that a field
+// has. The contract is for every card, so this is tested.)
+pub fn undo(card: Card) -> CardAnswer
+    ensures { λ r. ⌜ cardValues r ≡ undo card ⌝ }
+{
+    let latest = card.latest;
+    let Latest::Before(field, before) = latest else {
+        return card_answer(Verdict::Refused(Refusal::NothingToUndo), card);
+    };
+    if !is_field(field) {
+        return card_answer(Verdict::Refused(Refusal::NothingToUndo), card);
+    }
+    let restored = put(card, slot_index(field), before);
+    card_answer(Verdict::Accepted, keeping(restored, Latest::NothingToUndo))
 }
 
 // The state of a field; a number that no field has is as good as an empty field.

@@ -2,7 +2,7 @@
 -- stands for no refusal.
 use Prim.Native.Nat.{ℕ}
 use Rattle.refusal.specs.declared.Refusal.{Refusal}
-use Rattle.refusal.specs.declared.Refusal.the-variants.{NotConfirmed, NoDate, NoTime, NoDut1, NoPosition, NoBody, BelowHorizon, NearZenith, NoField, EmptyField, NoRoom, NotRead, TooLarge, Malformed, NoAngle, NoList, NoDeltaT}
+use Rattle.refusal.specs.declared.Refusal.the-variants.{NotConfirmed, NoDate, NoTime, NoDut1, NoPosition, NoBody, BelowHorizon, NearZenith, NoField, EmptyField, NoRoom, NotRead, TooLarge, Malformed, NoAngle, NoList, NoDeltaT, NothingToUndo}
 use Rattle.refusal.specs.declared.Verdict.{Verdict}
 use Rattle.refusal.specs.declared.Verdict.the-variants.{Accepted, Refused}
 
@@ -24,10 +24,11 @@ numberOf Malformed = 14
 numberOf NoAngle = 15
 numberOf NoList = 16
 numberOf NoDeltaT = 17
+numberOf NothingToUndo = 18
 
 -- the largest of them
 abbrev pub largestNumber : ℕ
-largestNumber = 17
+largestNumber = 18
 
 abbrev pub verdictNumber : Verdict → ℕ
 verdictNumber Accepted = 0

@@ -3,7 +3,7 @@ ghost use mathlib.Core.Path.{_≡_};
 ghost use Prim.Native.Nat.{_≤_};
 ghost use Rattle.refusal.specs.RefusalNumbers.{numberOf, largestNumber};
 
-// Why a call is refused, in the order of the numbers: 1 to 14 of document 01, 15 to 17 of document 02.
+// Why a call is refused, in the order of the numbers: 1 to 14 of document 01, 15 to 18 of document 02.
 pub enum Refusal {
     // 1: a shot from a card on which some field is not confirmed.
     NotConfirmed,
@@ -39,6 +39,8 @@ pub enum Refusal {
     NoList,
     // 17: ΔT, which is ET − UT1, out of range.
     NoDeltaT,
+    // 18: an undo where no hearing is left to undo.
+    NothingToUndo,
 }
 
 // What a call that gives nothing but a refusal answers.
@@ -69,5 +71,6 @@ pub fn number_of(refusal: Refusal) -> u64
         Refusal::NoAngle => 15,
         Refusal::NoList => 16,
         Refusal::NoDeltaT => 17,
+        Refusal::NothingToUndo => 18,
     }
 }

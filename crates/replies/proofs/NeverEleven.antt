@@ -13,9 +13,9 @@ use Rattle.digits.specs.Text.{decimalIn, decimal, spaced, digits, text}
 use Rattle.card.specs.Fields.{numberIn, slotIndex, fieldOf, put}
 use Rattle.card.specs.Confirmed.{cardTests}
 use Rattle.card.specs.Calls as Calls
-use Rattle.card.specs.Calls.{CardValues, accepted, hearTests, hear, confirmTests, confirm, heldTests}
+use Rattle.card.specs.Calls.{CardValues, accepted, hearTests, hearCard, hear, confirmTests, confirm, heldTests}
 use Rattle.card.specs.declared.Card.{Card}
-use Rattle.card.specs.declared.Field.the-variants.{Heard, Confirmed}
+use Rattle.card.specs.declared.Field.the-variants.{Confirmed}
 use Rattle.fieldbook.specs.Shot.{refused, tests, answerOf, shot, cardNumbers, shotFromCard}
 use Rattle.fieldbook.specs.declared.Numbers.{Numbers}
 use Rattle.pointing.specs.Pointing as Mark
@@ -62,7 +62,7 @@ module _ (c : Card) (f : ℤ) where
   hear-is-not : (z : ℤ) → NotEleven (verdictText (hear c f z .refusal))
   unfolding decimalText decimal decimalIn
   hear-is-not z =
-      holds-decided Verdict (hearTests f z) (accepted (put c (slotIndex f) (Heard z))) (Calls.refused c)
+      holds-decided Verdict (hearTests f z) (accepted (hearCard c f z)) (Calls.refused c)
       (differs 1 (verdictText 0) refl)
       (tell 9 refl, (tell 13 refl, tt))
 

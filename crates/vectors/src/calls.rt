@@ -27,6 +27,10 @@ pub fn confirm(card: Card, field: i64) -> Card {
     answered(card::confirm(card, field))
 }
 
+pub fn undo(card: Card) -> Card {
+    answered(card::undo(card))
+}
+
 // The shot from the card.
 pub fn shot(t: &SineTable, card: Card) -> Card
     requires { ⌜ now t ≡ entries ⌝ }

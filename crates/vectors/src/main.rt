@@ -60,6 +60,7 @@ fn answer(t: &SineTable, card: Card, line: &[u8]) -> Card
         Word::Hear => calls::hear(card, numbers[0], numbers[1]),
         Word::Read => calls::read(card, words::rest(line)),
         Word::Confirm => calls::confirm(card, numbers[0]),
+        Word::Undo => calls::undo(card),
         Word::CardShot => calls::shot(t, card),
         Word::Pointing => calls::pointing(t, card, numbers[0]),
         Word::Choice => {

@@ -10,6 +10,7 @@ pub enum Word {
     Hear,
     Read,
     Confirm,
+    Undo,
     CardShot,
     Pointing,
     Sine,
@@ -32,6 +33,9 @@ pub fn word_of(line: &[u8], count: usize) -> Word {
     }
     if check::same(line, b"old") {
         return Word::Old;
+    }
+    if check::same(line, b"undo") {
+        return Word::Undo;
     }
     if check::same(line, b"shot") {
         return Word::CardShot;

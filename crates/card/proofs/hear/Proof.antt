@@ -3,9 +3,11 @@ use mathlib.Core.Bool.{true}
 use mir.Facts.{toZ-ofZ}
 use borrow.Author.Tests.{not-true, not-false}
 use borrow.Author.Needs.{needs}
-use Rattle.card.specs.Fields.{isField, put}
+use Rattle.card.specs.Fields.{isField, fieldAt, put, keeping}
 use Rattle.card.specs.Calls.{accepted, canBeHeard}
 use Rattle.card.specs.declared.Field.the-variants.{Heard}
+use Rattle.card.specs.declared.Latest.the-variants.{Before}
+use Rattle.card.proofs.FieldNumbers.{field-found}
 use Rattle.card.proofs.CallAnswers.{hear-no-field, hear-too-large, hear-accepted}
 use Rattle.card.proofs.hear.Statement.{statement}
 use Rattle.card.proofs.hear.Tie as tie
@@ -53,25 +55,36 @@ slot-index-requires : tie.Need-slot-index-requires
 slot-index-requires c κs =
     let l = c .before .before in simp (toZ-ofZ (l .before .before .fits .field)) (field-there l)
 
+field-at-requires : tie.Need-field-at-requires
+field-at-requires c κs = search needs
+
 put-requires : tie.Need-put-requires
 put-requires c κs = search needs
+
+keeping-requires : tie.Need-keeping-requires
+keeping-requires c κs = search needs
 
 card-answer-requires-3 : tie.Need-card-answer-requires-3
 card-answer-requires-3 c κs = search needs
 
 returns-3 : tie.Need-returns-3
 returns-3 c =
-    let p = c .before .before in
+    let u = c .before .before in
+    let f = u .before in
+    let p = f .before in
     let t = p .before in
     let l = t .before .before in
     let s = l .before .before in
     let a = s .args in
+    let e = field-there l in
     let index = simp (toZ-ofZ (s .fits .field)) at (p .slot-index .ensures .0) in
+    let heard = u .put .ensures ∙ ap₂ (λ i z. put (a .card) i (Heard z)) index (toZ-ofZ (s .fits .number)) in
+    let before = f .field-at .ensures ∙ ap (fieldAt (a .card)) index ∙ field-found (a .field) e (a .card) in
     c .card-answer3 .ensures
-    ∙ ap accepted (c .before .put .ensures ∙ ap₂ (λ i z. put (a .card) i (Heard z)) index (toZ-ofZ (s .fits .number)))
-    ∙ hear-accepted (a .card) (a .field) (a .number) (field-there l) (tested-number (t .before) ∙ not-false _ (t .if2 .left))
+    ∙ ap accepted (c .before .keeping .ensures ∙ (λ i. keeping (heard i) (Before (toZ-ofZ (s .fits .field) i) (before i))))
+    ∙ hear-accepted (a .card) (a .field) (a .number) e (tested-number (t .before) ∙ not-false _ (t .if2 .left))
 
 pub hear-spec : {M : Type 1} → statement M
 hear-spec = tie.close
-    (tie.spec is-field-requires card-answer-requires returns sub-between between-requires card-answer-requires-2 returns-2 slot-index-requires put-requires
-    card-answer-requires-3 returns-3)
+    (tie.spec is-field-requires card-answer-requires returns sub-between between-requires card-answer-requires-2 returns-2 slot-index-requires
+    field-at-requires put-requires keeping-requires card-answer-requires-3 returns-3)

@@ -12,7 +12,7 @@ number-of-spec =
     (tie.spec
     (λ c. search needs) (λ c. search needs) (λ c. search needs) (λ c. search needs) (λ c. search needs) (λ c. search needs)
     (λ c. search needs) (λ c. search needs) (λ c. search needs) (λ c. search needs) (λ c. search needs) (λ c. search needs)
-    (λ c. search needs) (λ c. search needs) (λ c. search needs) (λ c. search needs) (λ c. search needs)
+    (λ c. search needs) (λ c. search needs) (λ c. search needs) (λ c. search needs) (λ c. search needs) (λ c. search needs)
     (λ c. (ap numberOf (sym (c .enum-told .given .1)), omega arith))
     (λ c. (ap numberOf (sym (c .enum-told2 .given .1)), omega arith))
     (λ c. (ap numberOf (sym (c .enum-told3 .given .1)), omega arith))
@@ -29,4 +29,5 @@ number-of-spec =
     (λ c. (ap numberOf (sym (c .enum-told14 .given .1)), omega arith))
     (λ c. (ap numberOf (sym (c .enum-told15 .given .1)), omega arith))
     (λ c. (ap numberOf (sym (c .enum-told16 .given .1)), omega arith))
-    (λ c. (ap numberOf (sym (c .enum-told17 .given .1)), omega arith)))
+    (λ c. (ap numberOf (sym (c .enum-told17 .given .1)), omega arith))
+    (λ c. (ap numberOf (sym (c .enum-told18 .given .1)), omega arith)))

@@ -1,0 +1,2 @@
+pub mod CardsInWords
+pub mod CardWords

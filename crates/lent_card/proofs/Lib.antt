@@ -1,0 +1,2 @@
+pub mod WordsFollowTheCard
+pub mod ByCard

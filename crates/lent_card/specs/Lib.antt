@@ -1,0 +1,2 @@
+pub mod LentCard
+pub mod LentHistory
