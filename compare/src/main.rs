@@ -14,7 +14,9 @@ use second::call::Call;
 use second::card::Field;
 use second::compare::{compare_asked, compare_library, compare_vectors, outcomes_of_calls, Way};
 use second::counts::LEAST;
-use second::lent_cards::{compare_lent_cards, compare_own_cards, outcomes_of_lent_cards};
+use second::lent_cards::{
+    compare_card_vectors, compare_lent_cards, compare_own_cards, outcomes_of_lent_cards,
+};
 use second::many_shots::compare_many_shots;
 use second::question::{Choice, LibraryAnswer, Pointing, Question, Shot};
 use second::sine::Sine;
@@ -190,13 +192,16 @@ fn many_shots_agree((seed, count): (u64, u64)) -> Result<(), String> {
     Ok(())
 }
 
-/// Compares calls on cards: on words lent to the static library, good and spoiled, and on a card of
-/// the wrapper.
+/// Compares calls on cards: on words lent to the static library, good and spoiled, and the calls of
+/// the outside vectors; and on a card of the wrapper.
 fn cards_agree(run: (u64, u64)) -> Result<(), String> {
     let sine = Sine::new();
     let counts = compare_lent_cards(&sine, run, &mut card_call)?;
     counts.all_reached(&outcomes_of_lent_cards(), LEAST)?;
     println!("{} calls of the static library on cards agree: {counts}", counts.total());
+    let vectors = include_str!("../../second/tests/data/card.txt");
+    let calls = compare_card_vectors(&sine, vectors, &mut card_call)?;
+    println!("{calls} calls on cards of the outside vectors agree, through the static library");
     let mut card = Card::fresh();
     let counts = compare_own_cards(&sine, run, &mut |call, buffer| {
         wrapped_card_call(&mut card, call, buffer)

@@ -8,6 +8,7 @@ use crate::counts::{Counts, Outcome};
 use crate::lines::joined;
 use crate::random::{any_size, Random, EXTREMES};
 use crate::random_calls::{history, CALLS};
+use crate::replay::card_line_by;
 use crate::sine::Sine;
 use std::fmt::Debug;
 
@@ -78,6 +79,28 @@ pub fn compare_lent_cards(
         words = lent_call(sine, (random, call), &words, library, counts)?;
         Ok(())
     })
+}
+
+/// Compares a library's calls on lent words with vectors, lines `call = answer`, and returns how
+/// many there are; the error tells the first that is answered otherwise.
+pub fn compare_card_vectors(sine: &Sine, file: &str, library: LentCall) -> Result<usize, String> {
+    let mut card = Card::fresh();
+    let mut on_words = |call: &Call, card: &mut Card, buffer: &mut [u8]| {
+        let mut words = card.words();
+        let answer = library(call, &mut words, buffer);
+        *card = Card::from_words(&words).expect("a call leaves a card");
+        answer
+    };
+    let mut taken = 0;
+    for line in file.lines().filter(|line| !line.starts_with('#')) {
+        let (call, expected) =
+            line.split_once(" = ").ok_or_else(|| format!("{line}: no answer"))?;
+        match card_line_by(&mut on_words, sine, &mut card, call.as_bytes()) {
+            Ok(given) if given == expected => taken += 1,
+            given => return Err(format!("{line}: {given:?} given")),
+        }
+    }
+    Ok(taken)
 }
 
 /// Makes one call on copies of words and buffer, by this program and by the library, and returns the

@@ -76,6 +76,19 @@ pub fn longitude_line(
 /// `read F PLACE BUFFER`, `confirm F`, `undo`, `shot` or `pointing A` -> what it returned, then
 /// the card's fields.
 pub fn card_line(sine: &Sine, card: &mut Card, line: &[u8]) -> Result<String, Refusal> {
+    card_line_by(&mut |call, card, buffer| call.answer(sine, card, buffer), sine, card, line)
+}
+
+/// A call on a card, with a buffer for a reading -> the words of its answer.
+pub type CardCall<'a> = &'a mut dyn FnMut(&Call, &mut Card, &mut [u8]) -> Vec<u64>;
+
+/// The same, with calls that somebody else makes.
+pub fn card_line_by(
+    make: CardCall,
+    sine: &Sine,
+    card: &mut Card,
+    line: &[u8],
+) -> Result<String, Refusal> {
     let words = words(line);
     let returned = match *words {
         [b"old"] => {
@@ -83,7 +96,7 @@ pub fn card_line(sine: &Sine, card: &mut Card, line: &[u8]) -> Result<String, Re
             String::new()
         }
         [b"pointing", angle] => pointing_call(sine, card, number(angle, MOST_DIGITS)?),
-        _ => returned(sine, card, &Call::from_words(&words)?),
+        _ => returned(make, card, &Call::from_words(&words)?),
     };
     let fields: Vec<String> = card.fields().iter().map(field_text).collect();
     Ok(format!("{returned}| {}", fields.join(" ")))
@@ -91,9 +104,9 @@ pub fn card_line(sine: &Sine, card: &mut Card, line: &[u8]) -> Result<String, Re
 
 /// What a call returns: the words of its answer, and behind those of a reading the buffer; a start
 /// returns nothing.
-fn returned(sine: &Sine, card: &mut Card, call: &Call) -> String {
+fn returned(make: CardCall, card: &mut Card, call: &Call) -> String {
     let mut buffer = call.buffer().to_vec();
-    let answer = joined(&call.answer(sine, card, &mut buffer));
+    let answer = joined(&make(call, card, &mut buffer));
     match call {
         Call::Fresh => String::new(),
         Call::Read { .. } => format!("{answer} {} ", to_hex(&buffer)),

@@ -11,7 +11,8 @@ use second::compare::{
 use second::counts::{Counts, Outcome, LEAST};
 use second::digits::LONGEST;
 use second::lent_cards::{
-    call_on_words, compare_lent_cards, compare_own_cards, outcomes_of_lent_cards, NO_CARD,
+    call_on_words, compare_card_vectors, compare_lent_cards, compare_own_cards,
+    outcomes_of_lent_cards, NO_CARD,
 };
 use second::many_shots::compare_many_shots;
 use second::question::{BatchQuestion, Choice, LibraryAnswer, Pointing, Question, Shot};
@@ -535,4 +536,25 @@ fn equal_seeds_give_equal_input() {
     let calls = |seed| random_calls(&sine, Start::Old, seed, 500);
     assert_eq!(calls(7), calls(7));
     assert_ne!(calls(7), calls(8));
+}
+
+/// The outside vectors of calls on a card, by this program's calls on words: all of them agree, and
+/// a library that leaves the words after an undo is found.
+#[test]
+fn card_vectors_on_words() {
+    let sine = Sine::new();
+    let vectors = include_str!("data/card.txt");
+    let mut on_words = |call: &Call, words: &mut [i64], buffer: &mut [u8]| {
+        call_on_words(&sine, call, words, buffer)
+    };
+    assert_eq!(compare_card_vectors(&sine, vectors, &mut on_words), Ok(2_249));
+    let mut not_undone = |call: &Call, words: &mut [i64], buffer: &mut [u8]| {
+        let before = words.to_vec();
+        let answer = on_words(call, words, buffer);
+        if *call == Call::Undo {
+            words.copy_from_slice(&before);
+        }
+        answer
+    };
+    assert!(compare_card_vectors(&sine, vectors, &mut not_undone).is_err());
 }
