@@ -6,7 +6,7 @@
 use mathlib.Core.Path.{_≡_, refl, sym, ap, subst, _∙_}
 use mathlib.Core.Bool.{Bool, true, false}
 use mathlib.Core.Logic.{_⊎_, inl, inr}
-use mathlib.Core.List.{List, [], _∷_, _++_, append-assoc}
+use mathlib.Core.List.{List, [], _∷_}
 use lib.IntN.{ℤ}
 use Rattle.card.specs.Fields.{isField, fieldOf, Full, freshCard}
 use Rattle.card.specs.declared.Field.{Field}
@@ -18,8 +18,8 @@ use Rattle.card.proofs.FieldNumbers.{no-field}
 use Rattle.card.proofs.Clash.{clash}
 use Rattle.card.specs.History.{Call, undo, after, afterAll, isUndone, leavesUndo, NothingStands, HeardAmong, Story, stoodConfirmed, stoodRead, stoodHeard, wasHeard, PutBackAmong}
 use Rattle.card.proofs.OneCall.{Passes, stays, gone, Effect, heard, readOut, confirmed, undone, kept, effect, after-full}
-use Rattle.card.proofs.Histories.{after-append, up-to-undo, nothing-between, no-calls, one-call}
-use Rattle.card.proofs.Stories.{longer, told-heard, told-read, told-confirmed}
+use Rattle.card.proofs.Histories.{up-to-undo, nothing-between, no-calls, one-call}
+use Rattle.card.proofs.Stories.{longer, told-heard, told-read, told-confirmed, upToUndo, in-two, card-there, put-back}
 use Rattle.card.proofs.Starts.{fresh-is-empty}
 
 -- the calls do not undo a hearing for f that came before them, and there is the story; or they do, and it goes on after the undo
@@ -55,14 +55,10 @@ module _ (c : Card) (f n : ℤ) (x : Call) (calls : List Call) where
   past-undo : after c x .latest ≡ Before f (fieldOf c f) → PutBackAmong (after c x) f n calls → Story c f n (x ∷ calls)
   unfolding afterAll NothingStands
   past-undo l b =
-      let front = b .between ++ undo ∷ [] in
-      let whole : calls ≡ front ++ b .rest = b .order ∙ simp append-assoc in
-      let there : afterAll (after c x) front ≡ after (afterAll (after c x) (b .between)) undo = after-append (after c x) (b .between) (undo ∷ []) in
-      let same : b .before ≡ fieldOf c f = (let q = sym (b .kept) ∙ l in cc) in
-      subst (Story c f n) (ap (λ l. x ∷ l) (sym whole))
-      (longer c f (x ∷ front) (λ m e t. up-to-undo (b .between) [] (b .leaves), nothing-between f (b .between) (b .leaves))
-      (ap (λ d. fieldOf d f) there ∙ b .back ∙ same)
-      (subst (λ d. Story d f n (b .rest)) (sym there) (b .story)))
+      subst (Story c f n) (ap (λ l. x ∷ l) (sym (in-two b)))
+      (longer c f (x ∷ upToUndo b) (λ m e t. up-to-undo (b .between) [] (b .leaves), nothing-between f (b .between) (b .leaves))
+      (ap (λ d. fieldOf d f) (card-there b) ∙ put-back b l)
+      (subst (λ d. Story d f n (b .rest)) (sym (card-there b)) (b .story)))
 
   -- the effect of the first call, and the story of the others
   tell : Effect c f x (fieldOf (after c x) f) (after c x .latest) → Told (after c x) f n calls → Told c f n (x ∷ calls)

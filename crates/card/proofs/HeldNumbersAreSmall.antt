@@ -7,7 +7,7 @@ use native.Mathlib.Omega.{arith}
 use lib.Dec.{leb→le}
 use lib.IntN.{ℤ, pos, negsuc, negℤ, ℤ-discrete}
 use Rattle.refusal.proofs.Decisions.{holds-decided}
-use Rattle.exact.proofs.Machine.{between-low, between-high, and-true}
+use Rattle.exact.proofs.Machine.{between-low, between-high}
 use Rattle.card.specs.Fields.{isField, fieldOf, Full, freshCard, DUT1, freshWithDut1AssumedZero}
 use Rattle.card.specs.Calls.{CardValues, ReadValues, refused, notWritten, largestHeard, canBeHeard, readTests, confirmTests, undoTests}
 use Rattle.card.specs.declared.Field.{Field}
@@ -16,8 +16,8 @@ use Rattle.card.specs.declared.Latest.{Latest}
 use Rattle.card.specs.declared.Latest.the-variants.{Before}
 use Rattle.card.specs.declared.Card.{Card}
 use Rattle.card.proofs.FieldNumbers.{no-field}
-use Rattle.card.proofs.CallAnswers.{hear-no-field, hear-too-large, hear-accepted}
-use Rattle.card.specs.History.{Call, hear, read, confirm, undo, after, afterAll, Small, KeptSmall, HeldSmall}
+use Rattle.card.proofs.Hearings.{heard-field, hear-heard, hear-unheard}
+use Rattle.card.specs.History.{Call, hear, read, confirm, undo, after, afterAll, isHeard, Small, KeptSmall, HeldSmall}
 use Rattle.card.proofs.OneCall.{Effect, heard, readOut, confirmed, undone, kept, effect, after-full}
 use Rattle.card.proofs.Starts.{fresh-is-empty, assumed-dut1, others-are-empty}
 
@@ -32,7 +32,7 @@ module _ (c : Card) (held : HeldSmall c) where
   kept-small f v e = subst KeptSmall e (held .1) .1
 
   after-one : (f : ℤ) {x : Call} {v : Field} {l : Latest} → Effect c f x v l → Small v
-  after-one f (heard n e r t w k) = rw w (small n (and-true (isField f) (canBeHeard n) t .1))
+  after-one f (heard n e r t w k) = rw w (small n (heard-field f n t .1))
   after-one f (readOut n buffer place e r b k w p) = rw w (rw k at (held .0 f))
   after-one f (confirmed n e r k w p) = rw w (rw k at (held .0 f))
   after-one f {x} {v} (undone e k l) = kept-small f v k
@@ -42,13 +42,13 @@ module _ (c : Card) (held : HeldSmall c) where
   field-small x full f false i = rw (sym (no-field f i (after c x))) (omega arith)
   field-small x full f true i = after-one f (effect c f x full i)
 
-  kept-heard : (f n : ℤ) (a b : Bool) → isField f ≡ a → canBeHeard n ≡ b → KeptSmall (after c (hear f n) .latest)
-  kept-heard f n false b i t = subst (λ (v : CardValues). KeptSmall (v .card .latest)) (hear-no-field c f n i) (held .1)
-  kept-heard f n true false i t = subst (λ (v : CardValues). KeptSmall (v .card .latest)) (hear-too-large c f n i t) (held .1)
-  kept-heard f n true true i t = subst (λ (v : CardValues). KeptSmall (v .card .latest)) (hear-accepted c f n i t) (i, held .0 f)
+  kept-heard : (f n : ℤ) (b : Bool) → isHeard f n ≡ b → KeptSmall (after c (hear f n) .latest)
+  kept-heard f n false h = subst (λ (d : Card). KeptSmall (d .latest)) (sym (hear-unheard c f n h .0)) (held .1)
+  kept-heard f n true h =
+      subst (λ (v : CardValues). KeptSmall (v .card .latest)) (hear-heard c f n h) (heard-field f n h .0, held .0 f)
 
   kept-after : (y : Call) → KeptSmall (after c y .latest)
-  kept-after (hear f n) = kept-heard f n (isField f) (canBeHeard n) refl refl
+  kept-after (hear f n) = kept-heard f n (isHeard f n) refl
   kept-after (read f buffer place) =
       holds-decided (λ (v : ReadValues). KeptSmall (v .card .latest)) (readTests c f buffer place) _ (notWritten c) (held .1)
       (held .1, (held .1, (held .1, tt)))

@@ -1,13 +1,13 @@
 -- Calls in two parts: the card after them, what they undo and what stands of them; and calls that leave what is kept for an undo.
-use mathlib.Core.Path.{_≡_, refl, sym, ap, _∙_}
+use mathlib.Core.Path.{_≡_, refl, ap, _∙_}
 use mathlib.Core.Bool.{Bool, true, false, cond}
 use mathlib.Core.List.{List, [], _∷_, _++_}
 use lib.IntN.{ℤ}
 use Rattle.refusal.proofs.Decisions.{holds-decided}
-use Rattle.card.specs.Fields.{isField, Full}
-use Rattle.card.specs.Calls.{CardValues, ReadValues, canBeHeard, refused, notWritten, confirmTests, readTests}
+use Rattle.card.specs.Fields.{Full}
+use Rattle.card.specs.Calls.{CardValues, ReadValues, refused, notWritten, confirmTests, readTests}
 use Rattle.card.specs.declared.Card.{Card}
-use Rattle.card.proofs.CallAnswers.{hear-no-field, hear-too-large}
+use Rattle.card.proofs.Hearings.{hear-unheard}
 use Rattle.card.proofs.Clash.{clash}
 use Rattle.card.specs.History.{Call, hear, read, confirm, undo, after, afterAll, settles, isUndo, isUndone, leavesUndo, NothingStands}
 use Rattle.card.proofs.OneCall.{NotHeard, after-full}
@@ -66,13 +66,8 @@ one-call f x h = (λ n e t. absurd (h n e t), tt)
 
 -- ---- calls that leave what is kept for an undo
 module _ (c : Card) where
-  hearing-leaves : (f n : ℤ) (a b : Bool) → isField f ≡ a → canBeHeard n ≡ b → settles (hear f n) ≡ false → after c (hear f n) .latest ≡ c .latest
-  hearing-leaves f n false b e t h = ap (λ a. a .card .latest) (sym (hear-no-field c f n e))
-  hearing-leaves f n true false e t h = ap (λ a. a .card .latest) (sym (hear-too-large c f n e t))
-  hearing-leaves f n true true e t h = clash (cc)
-
   one-leaves : (x : Call) → settles x ≡ false → after c x .latest ≡ c .latest
-  one-leaves (hear f n) e = hearing-leaves f n (isField f) (canBeHeard n) refl refl e
+  one-leaves (hear f n) e = ap (λ d. d .latest) (hear-unheard c f n e .0)
   one-leaves (read f buffer place) e =
       holds-decided (λ (v : ReadValues). v .card .latest ≡ c .latest) (readTests c f buffer place) _ (notWritten c) refl (refl, (refl, (refl, tt)))
   one-leaves (confirm f) e =

@@ -4,12 +4,14 @@ pub mod AssumedZeroIsTheException
 pub mod UnreadNeverConfirmed
 pub mod ShotNumbersWereReadOut
 pub mod UndoPutsBack
+pub mod RefusedLeavesTheCard
 pub mod HeldNumbersAreSmall
 pub mod ReadingsAreShort
 pub mod SmallHistories
 pub mod CallAnswers
 pub mod Clash
 pub mod FieldNumbers
+pub mod Hearings
 pub mod Histories
 pub mod OneCall
 pub mod Starts

@@ -12,14 +12,15 @@ use lib.Seq.{getD-set-same, getD-set-other}
 use Rattle.digits.specs.Text.{text}
 use Rattle.digits.specs.Writing.{fits, over}
 use Rattle.card.specs.Fields.{isHeld, isRead, numberIn, isField, slotIndex, slot, fieldOf, put, keeping, Full}
-use Rattle.card.specs.Calls.{canBeHeard, readState, bufferAfter}
+use Rattle.card.specs.Calls.{readState, bufferAfter}
 use Rattle.card.specs.declared.Field.{Field}
 use Rattle.card.specs.declared.Field.the-variants.{Empty, Heard, Read, Confirmed}
 use Rattle.card.specs.declared.Latest.{Latest}
 use Rattle.card.specs.declared.Latest.the-variants.{NothingToUndo, Before}
 use Rattle.card.specs.declared.Card.{Card}
 use Rattle.card.proofs.FieldNumbers.{field-number, index-below, field-found, no-field}
-use Rattle.card.proofs.CallAnswers.{hear-no-field, hear-too-large, hear-accepted, confirm-no-field, confirm-not-read, confirm-accepted, read-no-field, read-empty, read-no-room, read-written, undo-nothing, undo-no-field, undo-accepted}
+use Rattle.card.proofs.CallAnswers.{confirm-no-field, confirm-not-read, confirm-accepted, read-no-field, read-empty, read-no-room, read-written, undo-nothing, undo-no-field, undo-accepted}
+use Rattle.card.proofs.Hearings.{heard-field, hear-heard, hear-unheard}
 use Rattle.card.proofs.States.{is-read}
 use Rattle.card.proofs.Clash.{clash}
 use Rattle.card.specs.History.{Call, hear, read, confirm, undo, after, refusal, isHeard, settles, isUndone}
@@ -63,33 +64,29 @@ pub data Effect (c : Card) (f : ℤ) (x : Call) (v : Field) (l : Latest) : Type 
   kept : NotHeard f x → v ≡ fieldOf c f → Passes c f x l → Effect c f x v l
 
 -- what a call does to every field but one
-abbrev Leaves : Card → ℤ → Call → Latest → Type 0
+abbrev pub Leaves : Card → ℤ → Call → Latest → Type 0
 Leaves c f x l = NotHeard f x × Passes c f x l
 
 -- a call leaves the card, or it puts the next state into one field and leaves the others
-data Step (c : Card) (x : Call) : Type 0 where
+pub data Step (c : Card) (x : Call) : Type 0 where
   refused : after c x ≡ c → ((f : ℤ) → isField f ≡ true → Leaves c f x (c .latest)) → Step c x
   puts : (g : ℤ) (v : Field) (l : Latest) → isField g ≡ true → refusal c x ≡ 0 → after c x ≡ keeping (put c (slotIndex g) v) l → Effect c g x v l
       → ((f : ℤ) → f ≢ g → Leaves c f x l) → Step c x
 
 -- ---- hearing
 module _ (c : Card) (g n : ℤ) where
-  hear-refused : isHeard g n ≡ false → after c (hear g n) ≡ c → Step c (hear g n)
-  hear-refused r e = refused e (λ f i. (λ m q h. clash (cc), stays r refl))
-
   -- after a hearing for g none for another field is kept, nor can an earlier one be undone
   hear-leaves : (v : Field) → isHeard g n ≡ true → (f : ℤ) → f ≢ g → Leaves c f (hear g n) (Before g v)
   unfolding isUndone
   hear-leaves v h f r = (λ m q k. r (cc), gone (λ w q. r (cc)) (λ w calls q. rw h))
 
-  hear-step : (a b : Bool) → isField g ≡ a → canBeHeard n ≡ b → Step c (hear g n)
-  hear-step false b e t = hear-refused (rw e) (sym (ap (λ a. a .card) (hear-no-field c g n e)))
-  hear-step true false e t = hear-refused (rw (e, t)) (sym (ap (λ a. a .card) (hear-too-large c g n e t)))
-  hear-step true true e t =
-      let h = hear-accepted c g n e t in
-      let r = sym (ap (λ a. a .refusal) h) in
-      let k : isHeard g n ≡ true = rw (e, t) in
-      puts g (Heard n) (Before g (fieldOf c g)) e r (sym (ap (λ a. a .card) h)) (heard n refl r k refl refl) (hear-leaves (fieldOf c g) k)
+  hear-step : (b : Bool) → isHeard g n ≡ b → Step c (hear g n)
+  hear-step false h = refused (hear-unheard c g n h .0) (λ f i. (λ m q k. clash (cc), stays h refl))
+  hear-step true h =
+      let a = hear-heard c g n h in
+      let r = sym (ap (λ a. a .refusal) a) in
+      puts g (Heard n) (Before g (fieldOf c g)) (heard-field g n h .0) r (sym (ap (λ a. a .card) a)) (heard n refl r h refl refl)
+      (hear-leaves (fieldOf c g) h)
 
 -- ---- confirming and reading
 module _ (c : Card) (g : ℤ) where
@@ -153,8 +150,8 @@ module _ (c : Card) where
   undo-step (Before g v) l = undo-of g v (isField g) l refl
 
 -- ---- any call
-step : (c : Card) (x : Call) → Step c x
-step c (hear g n) = hear-step c g n (isField g) (canBeHeard n) refl refl
+pub step : (c : Card) (x : Call) → Step c x
+step c (hear g n) = hear-step c g n (isHeard g n) refl
 step c (read g buffer place) =
     read-step c g buffer place (isField g) (isHeld (fieldOf c g)) (fits buffer place (numberIn (fieldOf c g))) refl refl refl
 step c (confirm g) = confirm-step c g (isField g) (isRead (fieldOf c g)) refl refl
@@ -167,14 +164,6 @@ step-full c full (puts g v l i r e w h) = ap (λ d. length (d .slots)) e ∙ len
 
 pub after-full : (c : Card) (x : Call) → Full c → Full (after c x)
 after-full c x full = step-full c full (step c x)
-
--- a refused call leaves it as it was, and so what is kept for an undo
-step-refused : (c : Card) {x : Call} → refusal c x ≢ 0 → Step c x → after c x ≡ c
-step-refused c n (refused e h) = e
-step-refused c n (puts g v l i r e w h) = absurd (n r)
-
-pub refused-leaves : (c : Card) (x : Call) → refusal c x ≢ 0 → after c x ≡ c
-refused-leaves c x n = step-refused c n (step c x)
 
 -- and each field sees one of the five effects
 put-effect : (c : Card) (f g : ℤ) {x : Call} (v : Field) (l : Latest) → Full c → isField g ≡ true → Effect c g x v l → ((f : ℤ) → f ≢ g → Leaves c f x l)

@@ -1,5 +1,5 @@
 -- How the story of a confirmed number grows by calls in front of the others: by calls of which no hearing for the field stands, and by a call that
--- brings the field on.
+-- brings the field on. And of calls that undo a hearing from before them, the part up to that undo.
 use mathlib.Core.Path.{_≡_, sym, ap, subst, _∙_}
 use mathlib.Core.Bool.{false}
 use mathlib.Core.List.{List, [], _∷_, _++_, append-assoc}
@@ -9,10 +9,12 @@ use Rattle.digits.specs.Text.{text}
 use Rattle.digits.specs.Writing.{over}
 use Rattle.card.specs.Fields.{fieldOf}
 use Rattle.card.specs.Calls.{bufferAfter}
+use Rattle.card.specs.declared.Field.{Field}
 use Rattle.card.specs.declared.Field.the-variants.{Heard, Read, Confirmed}
+use Rattle.card.specs.declared.Latest.the-variants.{Before}
 use Rattle.card.specs.declared.Card.{Card}
 use Rattle.card.proofs.Clash.{clash}
-use Rattle.card.specs.History.{Call, hear, read, confirm, after, refusal, afterAll, isUndone, NothingStands, AcceptedAmong, ConfirmedAmong, ReadOutAmong, HeardAmong, Story, stoodConfirmed, stoodRead, stoodHeard, wasHeard}
+use Rattle.card.specs.History.{Call, hear, read, confirm, undo, after, refusal, afterAll, isUndone, NothingStands, AcceptedAmong, ConfirmedAmong, ReadOutAmong, HeardAmong, Story, stoodConfirmed, stoodRead, stoodHeard, wasHeard, PutBackAmong}
 use Rattle.card.proofs.Histories.{after-append, nothing-append, no-calls}
 
 -- ---- calls in front of which no hearing for f stands: what came after them still did
@@ -105,3 +107,18 @@ module _ (c : Card) (f n : ℤ) (x : Call) (calls : List Call) where
   told-confirmed m e r h w (stoodRead k q) = clash (cc)
   told-confirmed m e r h w (stoodHeard k q) = clash (cc)
   told-confirmed m e r h w (wasHeard s) = later-heard s
+
+-- ---- calls that undo a hearing from before them: those up to that undo, and what the field is then
+module _ {c : Card} {f n : ℤ} {calls : List Call} (b : PutBackAmong c f n calls) where
+  abbrev pub upToUndo : List Call
+  upToUndo = b .between ++ undo ∷ []
+
+  pub in-two : calls ≡ upToUndo ++ b .rest
+  in-two = b .order ∙ simp append-assoc
+
+  pub card-there : afterAll c upToUndo ≡ after (afterAll c (b .between)) undo
+  unfolding afterAll
+  card-there = after-append c (b .between) (undo ∷ [])
+
+  pub put-back : {v : Field} → c .latest ≡ Before f v → fieldOf (after (afterAll c (b .between)) undo) f ≡ v
+  put-back {v} l = let same : b .before ≡ v = (let q = sym (b .kept) ∙ l in cc) in b .back ∙ same

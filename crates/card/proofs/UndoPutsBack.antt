@@ -1,40 +1,32 @@
 -- An undo puts back what was. After an accepted hearing for field f on any card, and any calls that leave what is kept for an undo (readings and
 -- confirmings of any field, of f too, and refused hearings), an undo is accepted: f is again what it was before that hearing, state and number, and every
 -- other field stays as it is. Then there is nothing to undo until the next accepted hearing. On a card that keeps nothing there is nothing to undo either.
-use mathlib.Core.Path.{_≡_, refl, sym, ap, _∙_}
-use mathlib.Core.Bool.{Bool, true, false}
+use mathlib.Core.Path.{_≡_, sym, ap, _∙_}
+use mathlib.Core.Bool.{true}
 use mathlib.Core.List.{List, _∷_}
-use native.Mathlib.Omega.{arith}
 use lib.IntN.{ℤ}
 use Rattle.card.specs.Fields.{isField, fieldOf, Full}
-use Rattle.card.specs.Calls.{canBeHeard}
 use Rattle.card.specs.declared.Field.the-variants.{Heard}
 use Rattle.card.specs.declared.Latest.the-variants.{NothingToUndo, Before}
 use Rattle.card.specs.declared.Card.{Card}
-use Rattle.card.proofs.CallAnswers.{hear-no-field, hear-too-large, hear-accepted, undo-nothing, undo-accepted}
+use Rattle.card.proofs.CallAnswers.{undo-nothing, undo-accepted}
+use Rattle.card.proofs.Hearings.{heard-field, hear-heard, accepted-heard}
 use Rattle.card.specs.History.{Call, hear, undo, after, refusal, afterAll, leavesUndo, PutsBack}
 use Rattle.card.proofs.OneCall.{put-same, put-other, after-full}
 use Rattle.card.proofs.Histories.{stays-full, leaves-latest}
 
--- ---- an accepted hearing
--- is one for a field, of a number that can be heard, whatever the card
-accepted-by : (c : Card) (f n : ℤ) (a b : Bool) → isField f ≡ a → canBeHeard n ≡ b → refusal c (hear f n) ≡ 0 → (isField f ≡ true) × (canBeHeard n ≡ true)
-accepted-by c f n false b e t r = let z = ap (λ a. a .refusal) (hear-no-field c f n e) ∙ r in absurd (omega arith)
-accepted-by c f n true false e t r = let z = ap (λ a. a .refusal) (hear-too-large c f n e t) ∙ r in absurd (omega arith)
-accepted-by c f n true true e t r = (e, t)
-
-pub accepted-hearing : (c : Card) (f n : ℤ) → refusal c (hear f n) ≡ 0 → (isField f ≡ true) × (canBeHeard n ≡ true)
-accepted-hearing c f n = accepted-by c f n (isField f) (canBeHeard n) refl refl
-
--- and after it the field is heard, and what it was is kept
+-- ---- after an accepted hearing the field is heard, and what it was is kept
 module _ (c : Card) (f n : ℤ) (full : Full c) (r : refusal c (hear f n) ≡ 0) where
+  pub accepted-field : isField f ≡ true
+  accepted-field = heard-field f n (accepted-heard c f n r) .0
+
   pub now-heard : fieldOf (after c (hear f n)) f ≡ Heard n
   now-heard =
-      let h = accepted-hearing c f n r in
-      ap (λ a. fieldOf (a .card) f) (sym (hear-accepted c f n (h .0) (h .1))) ∙ put-same c f (Heard n) (Before f (fieldOf c f)) full (h .0)
+      ap (λ a. fieldOf (a .card) f) (sym (hear-heard c f n (accepted-heard c f n r)))
+      ∙ put-same c f (Heard n) (Before f (fieldOf c f)) full accepted-field
 
   pub now-kept : after c (hear f n) .latest ≡ Before f (fieldOf c f)
-  now-kept = let h = accepted-hearing c f n r in ap (λ a. a .card .latest) (sym (hear-accepted c f n (h .0) (h .1)))
+  now-kept = ap (λ a. a .card .latest) (sym (hear-heard c f n (accepted-heard c f n r)))
 
 -- ---- the undo
 -- where nothing is kept, calls that leave it so leave nothing to undo
@@ -45,7 +37,7 @@ pub undo-puts-back : (c : Card) (f n : ℤ) (between : List Call) → Full c →
     → PutsBack c f (afterAll c (hear f n ∷ between))
 unfolding afterAll
 undo-puts-back c f n between full r h =
-    let i = accepted-hearing c f n r .0 in
+    let i = accepted-field c f n full r in
     let v = fieldOf c f in
     let d = afterAll (after c (hear f n)) between in
     let u = undo-accepted d f v (leaves-latest (after c (hear f n)) between h ∙ now-kept c f n full r) i in

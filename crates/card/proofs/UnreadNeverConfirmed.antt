@@ -3,7 +3,7 @@
 use mathlib.Core.Path.{_≡_, refl, sym, ap, subst, _∙_}
 use mathlib.Core.Bool.{true}
 use mathlib.Core.Logic.{_⊎_, inl, inr}
-use mathlib.Core.List.{List, [], _∷_, _++_, append-assoc}
+use mathlib.Core.List.{List, _∷_, _++_, append-assoc}
 use lib.IntN.{ℤ}
 use Rattle.card.specs.Fields.{fieldOf, Full, freshCard}
 use Rattle.card.specs.declared.Field.{Field}
@@ -13,6 +13,7 @@ use Rattle.card.proofs.Clash.{clash}
 use Rattle.card.specs.History.{Call, hear, read, undo, after, refusal, afterAll, isUndone, NothingReadOut, WasReadOn, Story, stoodConfirmed, stoodRead, stoodHeard, wasHeard, PutBackAmong}
 use Rattle.card.proofs.OneCall.{after-full}
 use Rattle.card.proofs.Histories.{after-append, stays-full, up-to-undo}
+use Rattle.card.proofs.Stories.{upToUndo, in-two, card-there, put-back}
 use Rattle.card.proofs.UndoPutsBack.{now-heard, now-kept}
 use Rattle.card.proofs.ConfirmedWasReadOut.{confirmed-was-read-out}
 
@@ -51,13 +52,9 @@ module _ (c : Card) (f n m : ℤ) (later : List Call) (full : Full c) (r : refus
   unfolding afterAll
   by-story (inl s) = absurd (heard-unread (fieldOf heardCard f) (now-heard c f n full r) (unread-story heardCard f m later unread s))
   by-story (inr b) =
-      let front = b .between ++ undo ∷ [] in
-      let whole : later ≡ front ++ b .rest = b .order ∙ simp append-assoc in
-      let there = after-append heardCard (b .between) (undo ∷ []) in
-      let same : b .before ≡ fieldOf c f = (let q = sym (b .kept) ∙ now-kept c f n full r in cc) in
-      let u = subst (λ d. NothingReadOut d f (b .rest)) there (later-unread heardCard f later front (b .rest) whole unread) in (
+      let u = subst (λ d. NothingReadOut d f (b .rest)) (card-there b) (later-unread heardCard f later (upToUndo b) (b .rest) (in-two b) unread) in (
         ap isUndone (b .order) ∙ up-to-undo (b .between) (b .rest) (b .leaves),
-        subst (λ (v : Field). (v ≡ Read m) ⊎ (v ≡ Confirmed m)) (b .back ∙ same)
+        subst (λ (v : Field). (v ≡ Read m) ⊎ (v ≡ Confirmed m)) (put-back b (now-kept c f n full r))
             (unread-story (after (afterAll heardCard (b .between)) undo) f m (b .rest) u (b .story)),
       )
 

@@ -15,7 +15,8 @@ use Rattle.card.specs.Calls.{CardValues}
 use Rattle.card_words.specs.Words.{wordCount, cardWords, isCard, cardOf}
 use Rattle.card.specs.declared.Card.{Card}
 use Rattle.card.specs.History.{Call, hear, read, confirm, undo, after, refusal, afterAll, HeldSmall}
-use Rattle.card.proofs.OneCall.{after-full, refused-leaves}
+use Rattle.card.proofs.OneCall.{after-full}
+use Rattle.card.proofs.RefusedLeavesTheCard.{refused-leaves}
 use Rattle.card.proofs.HeldNumbersAreSmall.{one-call-keeps-small, fresh-is-small}
 use Rattle.card_words.proofs.CardsInWords.{words-are-card, card-back, words-back}
 use Rattle.lent_card.specs.LentCard.{withCard, wordsValues, intoWords, callWords, freshWords, readIntoWords, notRead, readWords}
