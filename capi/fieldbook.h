@@ -5,9 +5,9 @@
    read one list and write to the other, the card's calls read and write its words, a reading writes to a buffer
    besides, and the shot from a card only reads; the single shot and the pointing are lent nothing.
 
-   Header and library belong together. The linker does not compare how many numbers a function takes, and
-   code compiled with the header of another version would hand over some of them in the wrong place: compile
-   everything that includes this file again with each new library. */
+   Header and library belong together. The linker compares neither how many numbers a function takes nor how
+   many members its options have, and code compiled with the header of another version would hand over some of
+   them in the wrong place: compile everything that includes this file again with each new library. */
 #ifndef FIELDBOOK_H
 #define FIELDBOOK_H
 
@@ -30,6 +30,7 @@ enum fieldbook_refusal {
     FIELDBOOK_NO_DELTA_T = 17,   /* delta T out of range */
     FIELDBOOK_NO_POSITION = 5,   /* latitude or longitude out of range */
     FIELDBOOK_NO_BODY = 6,       /* body neither 1 nor 2 */
+    FIELDBOOK_NO_EDITION = 19,   /* edition neither 1 nor 2, for Polaris too */
     FIELDBOOK_BELOW_HORIZON = 7, /* the body is below the horizon */
     FIELDBOOK_NEAR_ZENITH = 8,   /* the body is too near the zenith for an azimuth */
     FIELDBOOK_NO_LIST = 16,      /* a list of results empty or longer than 64 */
@@ -57,6 +58,31 @@ struct fieldbook_shot_answer {
 
 enum fieldbook_body { FIELDBOOK_SUN = 1, FIELDBOOK_POLARIS = 2 };
 
+/* The editions of the Sun's series. The short one has the ellipse, the Moon, Venus and three terms of long
+   period. The full one adds Mars, Jupiter and Saturn and a fourth term of long period, and lets one amplitude
+   change with the date. Beside a modern theory, every five days from 1976 to 2049 and with delta_t given, the
+   Sun's longitude was off by 16.5 seconds of arc at most in the short edition, by 1.9 in the full one
+   (docs/accuracy.md). The full one takes 1.2 times the instructions of a single shot of the Sun, 1.4 times those
+   of one of many. Polaris is the same by both, at the same cost. */
+enum fieldbook_edition { FIELDBOOK_SHORT_EDITION = 1, FIELDBOOK_FULL_EDITION = 2 };
+
+/* How a shot is to be worked, beside its numbers: the last parameter of each call that works one. Any number
+   may be given for a member, and one without a meaning is refused.
+
+   Take the defaults, then set what is to be otherwise:
+
+       struct fieldbook_options options = FIELDBOOK_DEFAULTS;
+       options.edition = FIELDBOOK_FULL_EDITION;
+
+   Later versions of this header will have more members. Code that starts from the defaults is then compiled
+   again as it is, and its answers stay. A member that an initialiser of its own leaves out would be 0, which
+   is no option: every shot would be refused. */
+struct fieldbook_options {
+    int64_t edition; /* an enum fieldbook_edition; by default the short one */
+};
+
+#define FIELDBOOK_DEFAULTS {FIELDBOOK_SHORT_EDITION}
+
 /* The shot: where a body stands.
 
    year, month, day    Gregorian date, UTC, 1976-01-01 to 2049-12-31
@@ -73,18 +99,20 @@ enum fieldbook_body { FIELDBOOK_SUN = 1, FIELDBOOK_POLARIS = 2 };
                        2017, 69,184 - dut1. A whole second of it is 0.04 seconds of arc of the Sun's
                        longitude. 0 is the older rule, in which both times are one: the Sun is then
                        behind by 2 to 3 seconds of arc.
+   options             the edition of the Sun's series
 
    Nothing compares dut1 and delta_t with the date or with each other.
 
-       struct fieldbook_shot_answer a =
-           fieldbook_shot(1984, 7, 2, 14, 30, 0, 0, 1224000, -4230000, FIELDBOOK_SUN, 54184);
+       struct fieldbook_options options = FIELDBOOK_DEFAULTS;
+       struct fieldbook_shot_answer a = fieldbook_shot(
+           1984, 7, 2, 14, 30, 0, 0, 1224000, -4230000, FIELDBOOK_SUN, 54184, options);
        if (a.refusal != FIELDBOOK_ANSWERED)
            return a.refusal;
        set_out(a.azimuth); */
 struct fieldbook_shot_answer fieldbook_shot(int64_t year, int64_t month, int64_t day, int64_t hour,
                                             int64_t minute, int64_t millisecond, int64_t dut1,
                                             int64_t latitude, int64_t longitude, int64_t body,
-                                            int64_t delta_t);
+                                            int64_t delta_t, struct fieldbook_options options);
 
 /* How many numbers a row of many shots has, those of a shot in the order above, year to delta_t; and how many
    words its answer, those of a struct fieldbook_shot_answer. An array of these structs can be lent as the list
@@ -98,6 +126,7 @@ enum { FIELDBOOK_SHOT_NUMBERS = 11, FIELDBOOK_SHOT_WORDS = 5 };
    rows_count          how many numbers: 11 times the rows
    answers             where the words of the answers go, row after row
    answers_count       how many words there is room for: 5 times the rows
+   options             one for all rows
 
    Returns how many rows were answered: as many as there are whole rows of numbers and room for whole answers.
    Words beyond their answers stay as they were. A pointer must be valid for as many numbers as its count says,
@@ -108,28 +137,34 @@ enum { FIELDBOOK_SHOT_NUMBERS = 11, FIELDBOOK_SHOT_WORDS = 5 };
            {1984, 7, 2, 14, 30, 0, 0, 1224000, -4230000, FIELDBOOK_SUN, 54184},
            {1984, 7, 2, 14, 31, 0, 0, 1224000, -4230000, FIELDBOOK_SUN, 54184}};
        struct fieldbook_shot_answer answers[2];
-       fieldbook_shots(rows[0], 2 * FIELDBOOK_SHOT_NUMBERS, (uint64_t *)answers, 2 * FIELDBOOK_SHOT_WORDS);
+       struct fieldbook_options options = FIELDBOOK_DEFAULTS;
+       fieldbook_shots(rows[0], 2 * FIELDBOOK_SHOT_NUMBERS, (uint64_t *)answers, 2 * FIELDBOOK_SHOT_WORDS,
+                       options);
        if (answers[1].refusal != FIELDBOOK_ANSWERED)
            return answers[1].refusal;
        set_out(answers[1].azimuth); */
-uint64_t fieldbook_shots(const int64_t *rows, size_t rows_count, uint64_t *answers, size_t answers_count);
+uint64_t fieldbook_shots(const int64_t *rows, size_t rows_count, uint64_t *answers, size_t answers_count,
+                         struct fieldbook_options options);
 
 /* A pointing's answer. Check the refusal first: a refused pointing has no mark, and what stands for
    it is 0, which is also the azimuth of a mark due north. */
 struct fieldbook_pointing_answer {
-    uint64_t refusal; /* 2 to 8, 15 or 17 of enum fieldbook_refusal, 0 where the pointing is answered */
+    uint64_t refusal; /* 2 to 8, 15, 17 or 19 of enum fieldbook_refusal, 0 where the pointing is
+                         answered */
     uint64_t mark;    /* azimuth of the mark from north, clockwise, in units of 0.0001 second of arc,
                          0 to 12,959,999,999 */
 };
 
 /* The pointing: the azimuth of a reference mark, which is the body's less the horizontal angle,
-   reduced to one turn. The first eleven numbers are those of the shot, which is tested before the angle.
+   reduced to one turn. The first eleven numbers and the options are those of the shot, which is tested
+   before the angle.
 
    angle               horizontal angle, clockwise from the mark to the body, in units of 0.0001
                        second of arc, 0 to 12,959,999,999
 
+       struct fieldbook_options options = FIELDBOOK_DEFAULTS;
        struct fieldbook_pointing_answer a = fieldbook_pointing(
-           1984, 7, 2, 14, 30, 0, 0, 1224000, -4230000, FIELDBOOK_SUN, 54184, 1234567890);
+           1984, 7, 2, 14, 30, 0, 0, 1224000, -4230000, FIELDBOOK_SUN, 54184, 1234567890, options);
        if (a.refusal != FIELDBOOK_ANSWERED)
            return a.refusal;
        set_out(a.mark); */
@@ -137,7 +172,8 @@ struct fieldbook_pointing_answer fieldbook_pointing(int64_t year, int64_t month,
                                                     int64_t hour, int64_t minute,
                                                     int64_t millisecond, int64_t dut1,
                                                     int64_t latitude, int64_t longitude,
-                                                    int64_t body, int64_t delta_t, int64_t angle);
+                                                    int64_t body, int64_t delta_t, int64_t angle,
+                                                    struct fieldbook_options options);
 
 /* A choice's answer. Check the refusal first: with one, neither list is chosen, list is 1 and count
    is 0. */
@@ -239,8 +275,9 @@ uint64_t fieldbook_card_confirm(int64_t *card, size_t card_count, int64_t field)
 uint64_t fieldbook_card_undo(int64_t *card, size_t card_count);
 
 /* The shot with the numbers of a card, which is only read: refused by 100, then by 1 unless every field is
-   confirmed, and else answered as fieldbook_shot answers these numbers. */
-struct fieldbook_shot_answer fieldbook_card_shot(const int64_t *card, size_t card_count);
+   confirmed, and else answered as fieldbook_shot answers these numbers with the same options. */
+struct fieldbook_shot_answer fieldbook_card_shot(const int64_t *card, size_t card_count,
+                                                 struct fieldbook_options options);
 
 #ifdef __cplusplus
 }

@@ -45,7 +45,7 @@ def ask(second, command, words):
 
 
 def parts(second, words):
-    """Its steps of a shot with eleven numbers, by name."""
+    """Its steps of a shot with eleven numbers, which is by the short edition, by name."""
     answer = ask(second, "parts", words)
     return dict(zip(answer[::2], answer[1::2]))
 

@@ -14,13 +14,13 @@ import almanac
 from almanac import ROOT, TURN
 
 # the names of parts.txt in the order in which `parts` answers
-TIME = "N sidereal_q Ne q L Ms Mm Mv D Om Lm obl lp1 lp2 lp3".split()
+TIME = "N sidereal_q Ne q L Ms Mm Mv D Om Lm obl lp1 lp2 lp3 lp4 MM MJ Msn".split()
 FRAME = "dpsi mean_obliquity eps sidereal g".split()
 SUN = ["s"]
 POLARIS = "p ra dec zeta z theta catalogue before_aberration".split()
 VIEW = "vector x east z_component up north azimuth zenith hour_angle".split()
-# of the plain shots, so many of each refusal, of the answered ones of each body; after so many calls on the card stands one of them, which must leave the
-# card alone
+# of the plain shots, so many of each refusal, of the answered ones of each body and edition; after so many calls on the card stands one of them, which must
+# leave the card alone
 SHOTS = 4
 CALLS = 20
 # of the pointings from a card, so many of each refusal and of each body; a number that can be heard is at most so large; the buffer that it is read into
@@ -28,9 +28,11 @@ POINTINGS = 1
 HEARD = 9_999_999
 EMPTY = "00" * 15
 # the most numbers of a line
-NUMBERS = 12
+NUMBERS = 13
 # the most digits of a number on a line
 DIGITS = 18
+# the places of the body and of the edition on a line of shot.txt
+BODY, EDITION = 9, 11
 # a latitude from which Polaris is always seen, 45° in 0.1″
 NORTH = 1_620_000
 
@@ -68,9 +70,9 @@ def steps(lines):
     for left, right in lines:
         words, fields = right.split(), left.split()
         value = dict(zip(words[::2], words[1::2]))
-        body = SUN if fields[9] == "1" else POLARIS
+        body = SUN if fields[BODY] == "1" else POLARIS
         value.setdefault("g", str((int(value["L"]) + int(value.get("centre", 0))) % TURN))
-        found.append((f"instant {' '.join(fields[:7] + fields[10:])}", f"0 {listed(value, TIME)}"))
+        found.append((f"instant {' '.join(fields[:7] + fields[10:11])}", f"0 {listed(value, TIME)}"))
         found.append((f"parts {left}", f"0 {listed(value, TIME + FRAME + body + VIEW)}"))
     return found
 
@@ -95,12 +97,12 @@ def own_cases(second, lines):
     return found
 
 
-def first_of_each(lines, count):
-    """The first lines of each refusal, and of each body that is answered."""
+def first_of_each(lines, count, places):
+    """The first lines of each refusal, and of those that are answered the first with each of the numbers that stand at some places."""
     taken, found = collections.Counter(), []
     for left, right in lines:
-        refusal, body = right.split()[0], left.split()[9]
-        kind = (refusal, body if refusal == "0" else "")
+        refusal, numbers = right.split()[0], left.split()
+        kind = (refusal, *(numbers[place] for place in places if refusal == "0"))
         taken[kind] += 1
         if taken[kind] <= count:
             found.append((left, right))
@@ -110,14 +112,14 @@ def first_of_each(lines, count):
 def some_shots(lines):
     """Of the plain shots those that a line has room for."""
     fitting = [(left, right) for left, right in lines if all(len(number.lstrip("-")) <= DIGITS for number in left.split())]
-    return [(f"shot {left}", right) for left, right in first_of_each(fitting, SHOTS)]
+    return [(f"shot {left}", right) for left, right in first_of_each(fitting, SHOTS, (BODY, EDITION))]
 
 
 def pointings_from_cards(second, lines):
     """A pointing of each kind of pointing.txt from a card: refused by 1 on the fresh card, and answered where every number was heard, read and confirmed.
     The answers are the second program's, which must agree with the file on what does not hang on the sine."""
     found = []
-    for left, right in first_of_each([(left, right) for left, right in lines if can_be_heard(left)], POINTINGS):
+    for left, right in first_of_each([(left, right) for left, right in lines if can_be_heard(left)], POINTINGS, (BODY,)):
         *fields, angle = left.split()
         calls = ["fresh", f"pointing {angle}"]
         for number, value in enumerate(fields, 1):

@@ -1,5 +1,7 @@
 /* Keeps a card by the lines of standard input, `hear FIELD NUMBER`, `read FIELD`, `confirm FIELD`,
-   `undo` and `shot`, and prints for each the text read out, the angles, `ok`, or the refusal. */
+   `undo` and `shot`, and prints for each the text read out, the angles, `ok`, or the refusal.
+
+   usage: card [EDITION]    the edition of the Sun's series, a number; else the short one */
 #include "fieldbook.h"
 
 #include <inttypes.h>
@@ -71,18 +73,21 @@ static void print_text(int64_t field)
         printf("%.*s\n", (int)a.length, (const char *)text);
 }
 
-static void print_shot(void)
+static void print_shot(struct fieldbook_options options)
 {
-    struct fieldbook_shot_answer a = fieldbook_card_shot(card, FIELDBOOK_CARD_WORDS);
+    struct fieldbook_shot_answer a = fieldbook_card_shot(card, FIELDBOOK_CARD_WORDS, options);
     if (!refused(a.refusal))
         printf("az %" PRIu64 " zd %" PRIu64 " ha %" PRIu64 " s %" PRIu64 "\n", a.azimuth,
                a.zenith_distance, a.hour_angle, a.longitude);
 }
 
-int main(void)
+int main(int argc, char **argv)
 {
+    struct fieldbook_options options = FIELDBOOK_DEFAULTS;
     char line[ROOM];
     int64_t n[2];
+    if (argc > 1)
+        options.edition = strtoll(argv[1], NULL, 10);
     fieldbook_card_fresh(card, FIELDBOOK_CARD_WORDS);
     while (read_line(line)) {
         if (is_call(line, "hear", 2, n))
@@ -94,7 +99,7 @@ int main(void)
         else if (is_call(line, "undo", 0, n))
             print_done(fieldbook_card_undo(card, FIELDBOOK_CARD_WORDS));
         else if (is_call(line, "shot", 0, n))
-            print_shot();
+            print_shot(options);
         else
             puts("no 14"); /* as the session refuses a line */
     }

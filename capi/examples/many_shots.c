@@ -1,9 +1,12 @@
 /* Works the shots of standard input, eleven numbers to a line, many in one call, and prints the
-   angles or the refusal of each. */
+   angles or the refusal of each.
+
+   usage: many_shots [EDITION]    the edition of the Sun's series, a number; else the short one */
 #include "fieldbook.h"
 
 #include <inttypes.h>
 #include <stdio.h>
+#include <stdlib.h>
 
 enum { MOST = 1000 };
 
@@ -20,12 +23,15 @@ static size_t read_rows(void)
     return MOST;
 }
 
-int main(void)
+int main(int argc, char **argv)
 {
+    struct fieldbook_options options = FIELDBOOK_DEFAULTS;
     size_t count;
+    if (argc > 1)
+        options.edition = strtoll(argv[1], NULL, 10);
     while ((count = read_rows()) != 0) {
         fieldbook_shots(rows[0], count * FIELDBOOK_SHOT_NUMBERS, (uint64_t *)answers,
-                        count * FIELDBOOK_SHOT_WORDS);
+                        count * FIELDBOOK_SHOT_WORDS, options);
         for (size_t i = 0; i < count; i++) {
             struct fieldbook_shot_answer a = answers[i];
             if (a.refusal != FIELDBOOK_ANSWERED)

@@ -1,6 +1,8 @@
 /* Works two sets of pointings from standard input, the eleven numbers of a shot and the horizontal
    angle to a line, with an empty line between the sets. Prints the azimuth of the mark by each in
-   degrees, minutes and seconds, or the refusal, and at the end which set has the smaller spread. */
+   degrees, minutes and seconds, or the refusal, and at the end which set has the smaller spread.
+
+   usage: pointings [EDITION]    the edition of the Sun's series, a number; else the short one */
 #include "fieldbook.h"
 
 #include <inttypes.h>
@@ -41,13 +43,14 @@ static int read_pointing(int64_t n[12])
 }
 
 /* Works the next set: prints each azimuth, and then an empty line. */
-static struct set work_set(void)
+static struct set work_set(struct fieldbook_options options)
 {
     struct set set = {.count = 0};
     int64_t n[12];
     while (read_pointing(n)) {
-        struct fieldbook_pointing_answer a = fieldbook_pointing(
-            n[0], n[1], n[2], n[3], n[4], n[5], n[6], n[7], n[8], n[9], n[10], n[11]);
+        struct fieldbook_pointing_answer a =
+            fieldbook_pointing(n[0], n[1], n[2], n[3], n[4], n[5], n[6], n[7], n[8], n[9], n[10],
+                               n[11], options);
         if (a.refusal != FIELDBOOK_ANSWERED) {
             printf("no %" PRIu64 "\n", a.refusal);
             continue;
@@ -72,10 +75,13 @@ static int64_t spread(const int64_t *results, size_t count)
     return most - least;
 }
 
-int main(void)
+int main(int argc, char **argv)
 {
-    struct set first = work_set();
-    struct set second = work_set();
+    struct fieldbook_options options = FIELDBOOK_DEFAULTS;
+    if (argc > 1)
+        options.edition = strtoll(argv[1], NULL, 10);
+    struct set first = work_set(options);
+    struct set second = work_set(options);
     if (getchar() != EOF)
         fail("more than two sets");
 

@@ -1,7 +1,7 @@
 //! Compares the book's static library, called as it is and through the safe wrapper, with the
 //! second program on random shots, one by one and many in a call, pointings, choices and calls on
-//! cards, and with the outside vectors. Fails where they differ or an outcome is reached fewer than
-//! `LEAST` times.
+//! cards, the shots with random options, and with the outside vectors. Fails where they differ or an
+//! outcome is reached fewer than `LEAST` times.
 //!
 //! usage: compare SEED COUNT
 
@@ -12,20 +12,32 @@ mod ffi;
 use fieldbook::{Card, Numbers, Refusal, ShotAngles};
 use second::call::Call;
 use second::card::Field;
-use second::compare::{compare_asked, compare_library, compare_vectors, outcomes_of_calls, Way};
+use second::compare::{compare_asked, compare_library, compare_vectors, Way};
 use second::counts::LEAST;
 use second::lent_cards::{
     compare_card_vectors, compare_lent_cards, compare_own_cards, outcomes_of_lent_cards,
+    outcomes_of_own_cards,
 };
-use second::many_shots::compare_many_shots;
+use second::many_shots::{compare_many_shots, ManyShots};
+use second::options::Options;
 use second::question::{Choice, LibraryAnswer, Pointing, Question, Shot};
 use second::sine::Sine;
 use std::error::Error;
 use std::ptr;
 
+/// Options as the static library takes them.
+fn library_options(options: Options) -> ffi::Options {
+    ffi::Options { edition: options.edition }
+}
+
+/// Options as the wrapper takes them.
+fn wrapped_options(options: Options) -> fieldbook::Options {
+    fieldbook::Options { edition: options.edition }
+}
+
 /// The shot of the static library.
 fn shot(shot: &Shot) -> LibraryAnswer<Shot> {
-    let a = ffi::shot(shot.fields);
+    let a = ffi::shot(shot.fields, library_options(shot.options));
     (a.refusal, [a.azimuth, a.zenith_distance, a.hour_angle, a.longitude])
 }
 
@@ -44,15 +56,20 @@ fn library_answer(answer: Result<ShotAngles, Refusal>) -> LibraryAnswer<Shot> {
 
 /// The shot through the wrapper.
 fn wrapped_shot(shot: &Shot) -> LibraryAnswer<Shot> {
-    library_answer(fieldbook::shot(&Numbers::from(shot.fields)))
+    library_answer(fieldbook::shot(&Numbers::from(shot.fields), wrapped_options(shot.options)))
+}
+
+/// Many shots of the static library.
+fn many_shots(rows: &[i64], words: &mut [u64], options: Options) -> u64 {
+    ffi::shots(rows, words, library_options(options))
 }
 
 /// Many shots through the wrapper, as words: it takes whole rows, and as many as there is room for.
-fn wrapped_many_shots(rows: &[i64], words: &mut [u64]) -> u64 {
+fn wrapped_many_shots(rows: &[i64], words: &mut [u64], options: Options) -> u64 {
     let fields = rows.chunks_exact(11).take(words.len() / 5);
     let numbers: Vec<Numbers> =
         fields.map(|row| <[i64; 11]>::try_from(row).expect("eleven numbers").into()).collect();
-    let answers = fieldbook::shots(&numbers);
+    let answers = fieldbook::shots(&numbers, wrapped_options(options));
     for (words, answer) in words.chunks_exact_mut(5).zip(&answers) {
         let (refusal, angles) = library_answer(*answer);
         words[0] = refusal;
@@ -63,13 +80,15 @@ fn wrapped_many_shots(rows: &[i64], words: &mut [u64]) -> u64 {
 
 /// The pointing of the static library.
 fn pointing(pointing: &Pointing) -> LibraryAnswer<Pointing> {
-    let answer = ffi::pointing(pointing.fields, pointing.angle);
+    let options = library_options(pointing.options);
+    let answer = ffi::pointing(pointing.fields, pointing.angle, options);
     (answer.refusal, [answer.mark])
 }
 
 /// The pointing through the wrapper.
 fn wrapped_pointing(pointing: &Pointing) -> LibraryAnswer<Pointing> {
-    match fieldbook::pointing(&Numbers::from(pointing.fields), pointing.angle) {
+    let options = wrapped_options(pointing.options);
+    match fieldbook::pointing(&Numbers::from(pointing.fields), pointing.angle, options) {
         Ok(mark) => (0, [mark]),
         Err(refusal) => (refusal as u64, Pointing::REFUSED),
     }
@@ -109,8 +128,8 @@ fn card_call(call: &Call, card: &mut [i64], buffer: &mut [u8]) -> Vec<u64> {
         }
         Call::Confirm(field) => vec![ffi::card_confirm(card, field)],
         Call::Undo => vec![ffi::card_undo(card)],
-        Call::Shot => {
-            let a = ffi::card_shot(card);
+        Call::Shot(options) => {
+            let a = ffi::card_shot(card, library_options(options));
             vec![a.refusal, a.azimuth, a.zenith_distance, a.hour_angle, a.longitude]
         }
     }
@@ -129,7 +148,9 @@ fn wrapped_card_call(card: &mut Card, call: &Call, buffer: &mut [u8]) -> (Vec<u6
         }
         Call::Confirm(field) => card.confirm(field).map(|()| vec![]),
         Call::Undo => card.undo().map(|()| vec![]),
-        Call::Shot => card.shot().map(|answered| angles(answered).to_vec()),
+        Call::Shot(options) => {
+            card.shot(wrapped_options(options)).map(|answered| angles(answered).to_vec())
+        }
     };
     let answer = call.answer_words(values.map_err(|refusal| refusal as u64));
     // beyond the eleven too, where it must show none
@@ -181,11 +202,10 @@ fn agrees<Q: Question>(
 /// Compares many shots in a call on random ones.
 fn many_shots_agree((seed, count): (u64, u64)) -> Result<(), String> {
     let sine = Sine::new();
-    for (name, library) in [
-        ("static library", ffi::shots as fn(&[i64], &mut [u64]) -> u64),
-        ("wrapper", wrapped_many_shots),
-    ] {
-        let counts = compare_many_shots(&sine, (seed, count), &library)?;
+    let libraries: [(&str, ManyShots); 2] =
+        [("static library", &many_shots), ("wrapper", &wrapped_many_shots)];
+    for (name, library) in libraries {
+        let counts = compare_many_shots(&sine, (seed, count), library)?;
         counts.all_reached(&Shot::outcomes(), LEAST)?;
         println!("{} shots of the {name}, many in a call, agree: {counts}", counts.total());
     }
@@ -206,7 +226,7 @@ fn cards_agree(run: (u64, u64)) -> Result<(), String> {
     let counts = compare_own_cards(&sine, run, &mut |call, buffer| {
         wrapped_card_call(&mut card, call, buffer)
     })?;
-    counts.all_reached(&outcomes_of_calls(), LEAST)?;
+    counts.all_reached(&outcomes_of_own_cards(), LEAST)?;
     println!("{} calls of the wrapper on cards agree: {counts}", counts.total());
     Ok(())
 }

@@ -1,11 +1,11 @@
 //! The arguments: angles that grow with ephemeris time. Document 01, "Time" and its table;
-//! document 02, request 3.
+//! document 02, requests 3 and 7.
 
 use crate::calendar::{Epoch, CENTURY};
 use crate::exact::{floor, floor_product, reduce, MILLION_SQUARED};
 
 /// The arguments of document 01, in the order of its table; then those of the
-/// long period terms ("The Sun").
+/// long period terms ("The Sun"); then those that request 7 adds.
 #[derive(Clone, Copy, Debug, PartialEq, Eq)]
 pub enum Argument {
     /// L, the Sun's mean longitude.
@@ -30,12 +30,20 @@ pub enum Argument {
     LongPeriod2,
     /// 315.60 + 893.30 T.
     LongPeriod3,
+    /// 31.8 + 119.0 T.
+    LongPeriod4,
+    /// MM, the mean anomaly of Mars.
+    MarsAnomaly,
+    /// MJ, the mean anomaly of Jupiter.
+    JupiterAnomaly,
+    /// Msn, the mean anomaly of Saturn.
+    SaturnAnomaly,
 }
 
 use Argument::*;
 
 /// How many arguments there are.
-const COUNT: usize = 11;
+const COUNT: usize = 15;
 
 /// All arguments in their order.
 pub const ALL: [Argument; COUNT] = [
@@ -50,6 +58,10 @@ pub const ALL: [Argument; COUNT] = [
     LongPeriod1,
     LongPeriod2,
     LongPeriod3,
+    LongPeriod4,
+    MarsAnomaly,
+    JupiterAnomaly,
+    SaturnAnomaly,
 ];
 
 /// c0, c1, c2 of an argument in units; printed degrees beside them.
@@ -76,6 +88,14 @@ const COEFFICIENTS: [[i64; 3]; COUNT] = [
     [2_060_640_000, 5_409_720_000, 0],
     // 315.60, 893.30 (01; 001 section 2.1)
     [11_361_600_000, 32_158_800_000, 0],
+    // 31.8, 119.0 (02, request 7)
+    [1_144_800_000, 4_284_000_000, 0],
+    // MM: 319.529022, 19,139.859219, 0.000181 (001 section 1.3)
+    [11_503_044_792, 689_034_931_884, 6_516],
+    // MJ: 225.32833, 3,034.96202, -0.000722 (001 section 1.3)
+    [8_111_819_880, 109_258_632_720, -25_992],
+    // Msn: 175.46622, 1,221.55147, -0.000502 (001 section 1.3)
+    [6_316_783_920, 43_975_852_920, -18_072],
 ];
 
 /// An argument, reduced: c0, what c1 adds at N and what c2 adds at q, each of the two

@@ -1,6 +1,7 @@
-//! The time of a shot.
+//! The time of a shot, by the short edition.
 
 use crate::fieldbook::{shot, Fields};
+use crate::options::Options;
 use crate::random::{accepted, Random};
 use crate::sine::Sine;
 use std::fmt;
@@ -37,7 +38,7 @@ pub fn answered_shots(sine: &Sine) -> Vec<Fields> {
     while shots.len() < POOL {
         let mut fields = accepted(&mut random);
         fields[9] = 1 + shots.len() as i64 % 2;
-        if shot(sine, &fields).is_ok() {
+        if shot(sine, &fields, Options::default()).is_ok() {
             shots.push(fields);
         }
     }
@@ -52,7 +53,7 @@ pub fn time_shots(sine: &Sine, shots: &[Fields], count: u64) -> Timing {
     for _ in 0..batches {
         let start = Instant::now();
         for fields in rest.by_ref().take(BATCH as usize) {
-            let _ = black_box(shot(sine, black_box(fields)));
+            let _ = black_box(shot(sine, black_box(fields), Options::default()));
         }
         times.push(start.elapsed().as_nanos() as f64 / BATCH as f64);
     }

@@ -1,7 +1,8 @@
 //! The calls on a card, as values and as lines of card.txt.
 
 use crate::card::Card;
-use crate::lines::{number, MOST_DIGITS};
+use crate::lines::{joined, number, MOST_DIGITS};
+use crate::options::Options;
 use crate::refusal::Refusal;
 use crate::sine::Sine;
 use std::fmt;
@@ -14,11 +15,11 @@ pub enum Call {
     Read { field: i64, place: usize, buffer: Vec<u8> },
     Confirm(i64),
     Undo,
-    Shot,
+    Shot(Options),
 }
 
 impl Call {
-    /// The call of a line's words, or refusal 14.
+    /// The call of a line's words, or refusal 14; a line's shot has no options.
     pub fn from_words(words: &[&[u8]]) -> Result<Self, Refusal> {
         let number = |word: &[u8]| number(word, MOST_DIGITS);
         Ok(match *words {
@@ -30,7 +31,7 @@ impl Call {
             }
             [b"confirm", field] => Call::Confirm(number(field)?),
             [b"undo"] => Call::Undo,
-            [b"shot"] => Call::Shot,
+            [b"shot"] => Call::Shot(Options::default()),
             _ => return Err(Refusal::MalformedLine),
         })
     }
@@ -56,7 +57,7 @@ impl Call {
             }
             Call::Confirm(field) => card.confirm(field).map(|()| vec![]),
             Call::Undo => card.undo().map(|()| vec![]),
-            Call::Shot => card.shot(sine).map(|angles| angles.words().to_vec()),
+            Call::Shot(options) => card.shot(sine, options).map(|angles| angles.words().to_vec()),
         };
         self.answer_words(values.map_err(|refusal| refusal.number() as u64))
     }
@@ -66,7 +67,7 @@ impl Call {
     pub fn answer_words(&self, values: Result<Vec<u64>, u64>) -> Vec<u64> {
         let count = match self {
             Call::Read { .. } => 1,
-            Call::Shot => 4,
+            Call::Shot(_) => 4,
             _ => 0,
         };
         match values {
@@ -77,7 +78,7 @@ impl Call {
 }
 
 impl fmt::Display for Call {
-    /// The line of card.txt.
+    /// The line of card.txt; options that no line has stand behind it.
     fn fmt(&self, f: &mut fmt::Formatter<'_>) -> fmt::Result {
         match self {
             Call::Fresh => write!(f, "fresh"),
@@ -87,7 +88,8 @@ impl fmt::Display for Call {
             }
             Call::Confirm(field) => write!(f, "confirm {field}"),
             Call::Undo => write!(f, "undo"),
-            Call::Shot => write!(f, "shot"),
+            Call::Shot(options) if *options == Options::default() => write!(f, "shot"),
+            Call::Shot(options) => write!(f, "shot {}", joined(&options.numbers())),
         }
     }
 }

@@ -1,10 +1,11 @@
 //! The card: what was heard, read out and confirmed of each field. Document 01, "The card";
-//! document 02, requests 3, 4 and 6.
+//! document 02, requests 3, 4, 6 and 7.
 
 use crate::digits::text;
 #[cfg(test)]
 use crate::digits::LONGEST;
 use crate::fieldbook::{shot, Angles, Fields};
+use crate::options::Options;
 use crate::refusal::Refusal;
 use crate::sine::Sine;
 use std::mem;
@@ -131,8 +132,8 @@ impl Card {
         Ok(())
     }
 
-    /// The shot from the card: refusal 1 unless every field is confirmed.
-    pub fn shot(&self, sine: &Sine) -> Result<Angles, Refusal> {
+    /// The shot from the card: refusal 1 unless every field is confirmed, whatever the options.
+    pub fn shot(&self, sine: &Sine, options: Options) -> Result<Angles, Refusal> {
         let mut numbers: Fields = [0; 11];
         for (number, field) in numbers.iter_mut().zip(self.fields) {
             let Field::Confirmed(confirmed) = field else {
@@ -140,7 +141,7 @@ impl Card {
             };
             *number = confirmed;
         }
-        shot(sine, &numbers)
+        shot(sine, &numbers, options)
     }
 
     /// The card in words: state and number of each field; then the number of the field whose
@@ -208,8 +209,13 @@ mod tests {
     use crate::random_calls::{random_calls, Start};
     use crate::replay::card_line;
 
-    /// The Sun on 31 May 1978, answered in the outside vectors of shots.
-    const FIELDS: Fields = [1978, 5, 31, 14, 9, 4_339, 109, 1_573_902, -1_527_135, 1, 113_407];
+    /// The Sun on 4 July 1980, answered in the outside vectors of shots.
+    const FIELDS: Fields = [1980, 7, 4, 14, 41, 3_294, 245, -922_076, -743_081, 1, 115_194];
+
+    /// The shot from a card by the short edition.
+    fn short_shot(sine: &Sine, card: &Card) -> Result<Angles, Refusal> {
+        card.shot(sine, Options::default())
+    }
 
     /// A shot needs all eleven fields, whatever numbers stand in the others.
     #[test]
@@ -219,19 +225,33 @@ mod tests {
         for (field, number) in (1..).zip(FIELDS) {
             let mut card = Card::confirmed(&FIELDS);
             card.hear(field, number).unwrap();
-            assert_eq!(card.shot(&sine), refused);
+            assert_eq!(short_shot(&sine, &card), refused);
             card.read(field, 0, &mut [0; LONGEST]).unwrap();
-            assert_eq!(card.shot(&sine), refused);
+            assert_eq!(short_shot(&sine, &card), refused);
             card.confirm(field).unwrap();
-            assert_eq!(card.shot(&sine), shot(&sine, &FIELDS));
+            assert_eq!(short_shot(&sine, &card), shot(&sine, &FIELDS, Options::default()));
         }
         let mut card = Card::confirmed(&FIELDS);
         card.fields[10] = Field::Empty;
-        assert_eq!(card.shot(&sine), refused);
+        assert_eq!(short_shot(&sine, &card), refused);
         let mut card = Card::confirmed(&[0; 11]);
-        assert_eq!(card.shot(&sine), Err(Refusal::NoSuchDate));
+        assert_eq!(short_shot(&sine, &card), Err(Refusal::NoSuchDate));
         card.hear(11, 0).unwrap();
-        assert_eq!(card.shot(&sine), refused);
+        assert_eq!(short_shot(&sine, &card), refused);
+    }
+
+    /// The options are those of the plain shot; a field that is not confirmed comes before them.
+    #[test]
+    fn options_of_a_shot_from_a_card() {
+        let sine = Sine::new();
+        let card = Card::confirmed(&FIELDS);
+        for edition in [-1, 0, 1, 2, 3] {
+            let options = Options { edition };
+            assert_eq!(card.shot(&sine, options), shot(&sine, &FIELDS, options));
+            let refused = Err(Refusal::FieldNotConfirmed);
+            assert_eq!(Card::fresh().shot(&sine, options), refused);
+        }
+        assert_eq!(card.shot(&sine, Options { edition: 3 }), Err(Refusal::NoSuchEdition));
     }
 
     /// The two starts differ in DUT1 alone: on a fresh card nobody has said it, on the other
@@ -251,12 +271,12 @@ mod tests {
         }
         let mut with_zero = FIELDS;
         with_zero[6] = 0;
-        assert_eq!(fresh.shot(&sine), Err(Refusal::FieldNotConfirmed));
-        assert_eq!(assumed.shot(&sine), shot(&sine, &with_zero));
+        assert_eq!(short_shot(&sine, &fresh), Err(Refusal::FieldNotConfirmed));
+        assert_eq!(short_shot(&sine, &assumed), shot(&sine, &with_zero, Options::default()));
         assumed.hear(7, 0).unwrap();
-        assert_eq!(assumed.shot(&sine), Err(Refusal::FieldNotConfirmed));
+        assert_eq!(short_shot(&sine, &assumed), Err(Refusal::FieldNotConfirmed));
         fresh.enter(7, FIELDS[6]);
-        assert_eq!(fresh.shot(&sine), shot(&sine, &FIELDS));
+        assert_eq!(short_shot(&sine, &fresh), shot(&sine, &FIELDS, Options::default()));
     }
 
     #[test]
@@ -331,7 +351,7 @@ mod tests {
         assert_eq!(card.read(6, 0, &mut [0; LONGEST]), Err(Refusal::EmptyField));
         assert_eq!(card.read(5, 0, &mut [0; 2]), Err(Refusal::TextDoesNotFit));
         assert_eq!(card.confirm(5), Err(Refusal::NotRead));
-        assert_eq!(card.shot(&Sine::new()), Err(Refusal::FieldNotConfirmed));
+        assert_eq!(short_shot(&Sine::new(), &card), Err(Refusal::FieldNotConfirmed));
         assert_eq!(card, heard);
         assert_eq!(card.undo(), Ok(()));
         assert_eq!(card, Card::fresh());

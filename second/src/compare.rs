@@ -4,6 +4,7 @@
 use crate::card::Card;
 use crate::counts::{answered_or, Counts, Outcome};
 use crate::lines::joined;
+use crate::options::Options;
 use crate::question::{answer_text, asked_by_vector, BatchQuestion, LibraryAnswer, Question};
 use crate::random::Random;
 use crate::random_lines::Lines;
@@ -12,6 +13,9 @@ use crate::sine::Sine;
 
 /// The most lines of a short session, and of a run of calls on cards.
 const SHORT: u64 = 2_000;
+/// Of so many lines of a batch one has any count of numbers, up to the most.
+const ANY_COUNT: i64 = 200;
+const MOST_NUMBERS: i64 = 15;
 
 /// A way to ask a library, and its name.
 pub type Way<'a, Q> = (&'a str, &'a dyn Fn(&Q) -> LibraryAnswer<Q>);
@@ -21,10 +25,26 @@ pub fn random_batch<Q: BatchQuestion>(sine: &Sine, seed: u64, count: u64) -> Vec
     let mut random = Random::new(seed);
     let mut text = Vec::new();
     for _ in 0..count {
-        text.extend(joined(&Q::random(&mut random, sine).numbers()).bytes());
+        let question = Q::random(&mut random, sine);
+        text.extend(joined(&batch_numbers(&mut random, &question)).bytes());
         text.push(b'\n');
     }
     text
+}
+
+/// The numbers of a question's line, every second time without the options at the end that have
+/// their defaults; rarely too few or too many.
+fn batch_numbers<Q: BatchQuestion>(random: &mut Random, question: &Q) -> Vec<i64> {
+    let mut numbers = question.numbers();
+    for default in Options::default().numbers().into_iter().rev() {
+        if numbers.pop_if(|last| *last == default && random.once_in(2)).is_none() {
+            break;
+        }
+    }
+    if random.once_in(ANY_COUNT) {
+        numbers.resize(random.between(0, MOST_NUMBERS) as usize, 1);
+    }
+    numbers
 }
 
 /// A line for each line.
@@ -49,7 +69,8 @@ pub fn call_answers(sine: &Sine, input: &[u8]) -> Vec<u8> {
     answers(input, |line| card_line(sine, &mut card, line).unwrap_or_else(refused))
 }
 
-/// The outcomes that a batch reaches: 14 too, where a number has more digits than a line's may.
+/// The outcomes that a batch reaches: 14 too, where a number has more digits than a line's may or
+/// the numbers are too few or too many.
 pub fn outcomes_of_a_batch<Q: BatchQuestion>() -> Vec<Outcome> {
     [Q::outcomes(), vec![Outcome::Refused(14)]].concat()
 }
@@ -91,12 +112,13 @@ pub fn random_lines(sine: &Sine, seed: u64, count: u64) -> Vec<u8> {
     text
 }
 
-/// The outcomes that sessions reach; their buffer always holds the text, so 11 is none.
+/// The outcomes that sessions reach; their buffer always holds the text, so 11 is none, nor is 19,
+/// since no line names an edition.
 pub fn outcomes_of_sessions() -> Vec<Outcome> {
     answered_or((1..=10).chain([12, 13, 14, 17]))
 }
 
-/// The outcomes that calls on a card reach.
+/// The outcomes that calls on a card by lines reach; these name no edition either.
 pub fn outcomes_of_calls() -> Vec<Outcome> {
     [answered_or((1..=13).chain([17, 18])), vec![Outcome::Undone]].concat()
 }

@@ -39,14 +39,18 @@ impl Outcome {
 
     /// The outcome of a call on a card by its answer, in which the refusal's number stands first.
     pub fn of_call(call: &str, answer: &str) -> Self {
-        let number = answer.split(' ').next().and_then(|word| word.parse().ok());
-        match (number, call) {
+        match (first_word(answer).parse().ok(), first_word(call)) {
             (Some(0), "shot") => Outcome::Answered,
             (Some(0), "undo") => Outcome::Undone,
             (Some(0) | None, _) => Outcome::Other,
             (Some(number), _) => Outcome::Refused(number),
         }
     }
+}
+
+/// The first word of a line.
+fn first_word(line: &str) -> &str {
+    line.split(' ').next().unwrap_or_default()
 }
 
 impl fmt::Display for Outcome {

@@ -1,15 +1,17 @@
-//! The shot with eleven plain numbers. Document 01, "The card", "Refusal numbers" and the
-//! last sentence of "The horizon"; document 02, request 3.
+//! The shot with eleven plain numbers and its options. Document 01, "The card", "Refusal numbers"
+//! and the last sentence of "The horizon"; document 02, requests 3 and 7.
 
 use crate::arguments::Arguments;
 use crate::calendar::{instant, Instant};
+use crate::edition::Edition;
 use crate::frame::{frame, Frame, FRAME_ARGUMENTS};
 use crate::horizon::{angles, components, Components, HorizonAngles};
+use crate::options::Options;
 use crate::polaris::{polaris, Polaris};
 use crate::refusal::Refusal;
 use crate::rotation::Direction;
 use crate::sine::Sine;
-use crate::sun::{sun, Sun, SUN_ARGUMENTS};
+use crate::sun::{sun, Sun};
 
 /// The eleven numbers of a shot, field 1 first.
 pub type Fields = [i64; 11];
@@ -71,8 +73,15 @@ impl Reduction {
     }
 }
 
-/// The instant, or the first of the refusals 2, 3, 4, 17, 5 and 6 that applies.
-pub fn check(fields: &Fields) -> Result<Instant, Refusal> {
+/// What a shot is worked by once its numbers and options are accepted.
+#[derive(Clone, Copy, Debug)]
+pub struct Accepted {
+    pub instant: Instant,
+    pub edition: Edition,
+}
+
+/// What the shot is worked by, or the first of the refusals 2, 3, 4, 17, 5, 6 and 19 that applies.
+pub fn check(fields: &Fields, options: Options) -> Result<Accepted, Refusal> {
     let [year, month, day, hour, minute, millisecond, dut1, latitude, longitude, body, delta_t] =
         *fields;
     let instant = instant(&[year, month, day, hour, minute, millisecond, dut1, delta_t])?;
@@ -84,18 +93,19 @@ pub fn check(fields: &Fields) -> Result<Instant, Refusal> {
     if !(1..=2).contains(&body) {
         return Err(Refusal::NoSuchBody);
     }
-    Ok(instant)
+    let edition = Edition::from_number(options.edition)?;
+    Ok(Accepted { instant, edition })
 }
 
 /// Works a shot to the components in the horizon's frame, or the refusals of `check`.
-pub fn reduction(sine: &Sine, fields: &Fields) -> Result<Reduction, Refusal> {
-    let instant = check(fields)?;
+pub fn reduction(sine: &Sine, fields: &Fields, options: Options) -> Result<Reduction, Refusal> {
+    let Accepted { instant, edition } = check(fields, options)?;
     let ephemeris = &instant.ephemeris;
     let mut arguments = Arguments::at(ephemeris, &FRAME_ARGUMENTS);
     let frame = frame(sine, &instant, &arguments);
     let body = if fields[9] == 1 {
-        arguments.extend(ephemeris, &SUN_ARGUMENTS);
-        Body::Sun(sun(sine, &arguments, ephemeris.millionths, &frame))
+        arguments.extend(ephemeris, edition.arguments());
+        Body::Sun(sun(sine, edition, &arguments, ephemeris.millionths, &frame))
     } else {
         Body::Polaris(polaris(sine, ephemeris, &arguments, &frame))
     };
@@ -105,8 +115,8 @@ pub fn reduction(sine: &Sine, fields: &Fields) -> Result<Reduction, Refusal> {
 }
 
 /// The shot: four angles, or the first refusal of `check`, then 7, 8, that applies.
-pub fn shot(sine: &Sine, fields: &Fields) -> Result<Angles, Refusal> {
-    let reduction = reduction(sine, fields)?;
+pub fn shot(sine: &Sine, fields: &Fields, options: Options) -> Result<Angles, Refusal> {
+    let reduction = reduction(sine, fields, options)?;
     let angles = reduction.horizon_angles(sine)?;
     let apparent_longitude = match reduction.body {
         Body::Sun(place) => place.apparent_longitude,
@@ -125,20 +135,27 @@ mod tests {
     use super::*;
     use crate::calendar::LARGEST_DELTA_T;
 
-    /// The Sun under the horizon on 7 February 2020, in the outside vectors of shots.
-    const BELOW: Fields = [2020, 2, 7, 9, 2, 56_607, 0, 2_446_846, -5_451_337, 1, 0];
+    /// The Sun under the horizon on 29 February 2024, in the outside vectors of shots.
+    const BELOW: Fields = [2024, 2, 29, 16, 54, 57_922, 0, -1_909_396, -6_162_022, 1, 0];
 
-    /// The refusal of these fields.
-    fn refusal(fields: &Fields) -> Option<Refusal> {
-        shot(&Sine::new(), fields).err()
+    /// Polaris above the horizon on 16 March 1976, in the outside vectors of shots.
+    const POLARIS: Fields = [1976, 3, 16, 13, 34, 4_855, 801, 2_199_586, -4_998_479, 2, 107_385];
+
+    /// The refusal of these fields with an edition.
+    fn refusal(fields: &Fields, edition: i64) -> Option<Refusal> {
+        shot(&Sine::new(), fields, Options { edition }).err()
     }
 
-    /// A bad number in one field more at a time, the last test first: each refusal is given
-    /// before those behind it.
+    /// An unknown edition, then a bad number in one field more at a time, the last test first: each
+    /// refusal is given before those behind it.
     #[test]
     fn refusals_in_their_order() {
         let mut fields = BELOW;
-        assert_eq!(refusal(&fields), Some(Refusal::BelowHorizon));
+        for known in [1, 2] {
+            assert_eq!(refusal(&fields, known), Some(Refusal::BelowHorizon));
+        }
+        let unknown = 3;
+        assert_eq!(refusal(&fields, unknown), Some(Refusal::NoSuchEdition));
         let spoiled = [
             (9, 3, Refusal::NoSuchBody),
             (8, 6_480_001, Refusal::PositionOutOfRange),
@@ -150,7 +167,7 @@ mod tests {
         ];
         for (place, number, expected) in spoiled {
             fields[place] = number;
-            assert_eq!(refusal(&fields), Some(expected));
+            assert_eq!(refusal(&fields, unknown), Some(expected));
         }
     }
 
@@ -159,13 +176,25 @@ mod tests {
         let with = |delta_t| {
             let mut fields = BELOW;
             fields[10] = delta_t;
-            refusal(&fields)
+            refusal(&fields, 1)
         };
         for accepted in [0, LARGEST_DELTA_T] {
             assert_eq!(with(accepted), Some(Refusal::BelowHorizon));
         }
         for bad in [i64::MIN, -1, LARGEST_DELTA_T + 1, i64::MAX] {
             assert_eq!(with(bad), Some(Refusal::DeltaTOutOfRange));
+        }
+    }
+
+    /// Polaris is the same by both editions, and has no unknown one.
+    #[test]
+    fn polaris_by_any_known_edition() {
+        let sine = Sine::new();
+        let by = |edition| shot(&sine, &POLARIS, Options { edition });
+        assert!(by(1).is_ok());
+        assert_eq!(by(1), by(2));
+        for unknown in [i64::MIN, -1, 0, 3, i64::MAX] {
+            assert_eq!(by(unknown), Err(Refusal::NoSuchEdition));
         }
     }
 }

@@ -112,15 +112,15 @@ mod tests {
         frame(&Sine::new(), &Instant { universal, ephemeris }, &arguments).sidereal_time
     }
 
-    /// 6 January 2019 in the outside vectors of parts. By ET alone it would be far later; with
+    /// 4 December 2002 in the outside vectors of parts. By ET alone it would be far later; with
     /// the nutation by UT1 too, two units less.
     #[test]
     fn mean_part_by_ut1_and_nutation_by_et() {
         let Instant { universal, ephemeris } =
-            instant(&[2019, 1, 6, 4, 6, 59_108, 0, 120_000]).unwrap();
-        assert_eq!(sidereal_time(universal, ephemeris), 6_019_198_477);
-        assert_eq!(sidereal_time(ephemeris, ephemeris), 6_037_247_759);
-        assert_eq!(sidereal_time(universal, universal), 6_019_198_475);
+            instant(&[2002, 12, 4, 6, 19, 52_042, 317, 120_000]).unwrap();
+        assert_eq!(sidereal_time(universal, ephemeris), 6_043_058_509);
+        assert_eq!(sidereal_time(ephemeris, ephemeris), 6_061_107_791);
+        assert_eq!(sidereal_time(universal, universal), 6_043_058_507);
     }
 
     /// A millisecond before q is a million, one of ΔT takes only the other q there.

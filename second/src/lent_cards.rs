@@ -1,12 +1,12 @@
 //! Random histories of calls on a card that a library keeps in words its caller lends, or that it
-//! shows by its fields alone: document 02, request 6.
+//! shows by its fields alone: document 02, request 6; its shots have options: request 7.
 
 use crate::call::Call;
 use crate::card::{Card, Field, LARGEST_HEARD, WORDS};
 use crate::compare::outcomes_of_calls;
 use crate::counts::{Counts, Outcome};
 use crate::lines::joined;
-use crate::random::{any_size, Random, EXTREMES};
+use crate::random::{any_size, random_options, Random, EXTREMES};
 use crate::random_calls::{history, CALLS};
 use crate::replay::card_line_by;
 use crate::sine::Sine;
@@ -20,6 +20,8 @@ const HEARING: usize = 22;
 const SPARES: usize = 16;
 /// Before one of so many calls the same is made with a number from all of 64 bits.
 const WIDE: i64 = 30;
+/// Before one of so many shots the same is made with other options.
+const OTHER_OPTIONS: i64 = 2;
 /// Before one of so many calls one is made on a spoiled copy of the words.
 const SPOILED: i64 = 10;
 /// States that no field has; some have the low bits of one.
@@ -39,9 +41,14 @@ pub type OwnCall<'a> = &'a mut dyn FnMut(&Call, &mut [u8]) -> (Vec<u64>, Vec<Fie
 /// What a call leaves: the words of its answer, the card, and the buffer with its spares.
 type Left<C> = (Vec<u64>, C, Vec<u8>);
 
+/// The outcomes that calls on a library's own card reach: a shot there may name an edition.
+pub fn outcomes_of_own_cards() -> Vec<Outcome> {
+    [outcomes_of_calls(), vec![Outcome::Refused(19)]].concat()
+}
+
 /// The outcomes that calls on lent words reach.
 pub fn outcomes_of_lent_cards() -> Vec<Outcome> {
-    [outcomes_of_calls(), vec![Outcome::Refused(NO_CARD)]].concat()
+    [outcomes_of_own_cards(), vec![Outcome::Refused(NO_CARD)]].concat()
 }
 
 /// This program's call on lent words: on the card they are, or refused and nothing written. For a
@@ -72,7 +79,8 @@ pub fn compare_lent_cards(
         if random.once_in(SPOILED) {
             let copy = spoiled(random, &words);
             // also those that are rare in a history
-            let calls = [call, call, call, &Call::Fresh, &Call::Undo, &Call::Shot];
+            let shot = Call::Shot(random_options(random));
+            let calls = [call, call, call, &Call::Fresh, &Call::Undo, &shot];
             let call = random.choose(&calls);
             lent_call(sine, (random, call), &copy, library, counts)?;
         }
@@ -156,7 +164,8 @@ fn each_call(
         take(&mut random, &Call::Fresh, &mut counts)?;
         let calls = random.between(0, CALLS) as u64;
         for call in history(&mut random, sine, false, calls) {
-            if random.once_in(WIDE) {
+            let is_shot = matches!(call, Call::Shot(_));
+            if random.once_in(if is_shot { OTHER_OPTIONS } else { WIDE }) {
                 let wide = widened(&mut random, call.clone());
                 take(&mut random, &wide, &mut counts)?;
             }
@@ -200,7 +209,7 @@ fn any_number(random: &mut Random) -> i64 {
     }
 }
 
-/// A call with one of its numbers from all of 64 bits, where it has one.
+/// A call with one of its numbers from all of 64 bits, where it has one, or with other options.
 fn widened(random: &mut Random, call: Call) -> Call {
     let first = random.once_in(2);
     let any = any_number(random);
@@ -210,7 +219,8 @@ fn widened(random: &mut Random, call: Call) -> Call {
         Call::Read { place, buffer, .. } if first => Call::Read { field: any, place, buffer },
         Call::Read { field, buffer, .. } => Call::Read { field, place: any as usize, buffer },
         Call::Confirm(_) => Call::Confirm(any),
-        Call::Fresh | Call::Undo | Call::Shot => call,
+        Call::Shot(_) => Call::Shot(random_options(random)),
+        Call::Fresh | Call::Undo => call,
     }
 }
 

@@ -1,6 +1,7 @@
 //! The command `second`: see `USAGE`.
 
 use second::bench::{answered_shots, time_shots};
+use second::bound::LongitudeBounds;
 use second::card::Card;
 use second::compare::{
     batch_answers, call_answers, equal_outputs, outcomes_of_a_batch, outcomes_of_calls,
@@ -24,19 +25,20 @@ use std::thread;
 
 const USAGE: &str = "\
 usage: second COMMAND, from standard input to standard output, a line for a line
-  shots                       eleven numbers -> az A zd Z ha H s S, or no N
-  pointings                   eleven numbers and the horizontal angle -> mark M, or no N
+  shots                       eleven numbers [E] -> az A zd Z ha H s S, or no N
+  pointings                   eleven numbers, the horizontal angle [E] -> mark M, or no N
   session                     document 01's session
-  parts                       eleven numbers -> every step by name
-  longitude                   fields 1 to 7 and 11 -> s, polynomial longitude, bound
+  parts                       eleven numbers [E] -> every step by name
+  longitude                   fields 1 to 7 and 11 [E] -> s, polynomial longitude, bound
   sine                        a -> Sin(a) Cos(a)
   angle                       x y -> angle(x, y)
   choice                      two lists -> refusal, which list, its length
   card                        fresh, old, hear, read, confirm, undo, shot, pointing -> result, card
   count-refusals              answers of the first three -> how often each was given
+E is the edition of the Sun's series, 1 where it is left out
 without input:
-  random-shots SEED COUNT     lines of eleven numbers
-  random-pointings SEED COUNT lines of twelve numbers
+  random-shots SEED COUNT     lines of shots
+  random-pointings SEED COUNT lines of pointings
   random-lines SEED COUNT     the lines of a session, good and damaged
   random-calls START SEED COUNT   calls on cards, each from a START, fresh or old
   sine-extremes               how far Sin is from R * P, Sin^2 + Cos^2 from R^2 (a minute)
@@ -72,7 +74,10 @@ fn dispatch(words: &[&str]) -> Done {
         ["pointings"] => each_line(|line| replay::batch_line::<Pointing>(&sine, line)),
         ["session"] => Ok(session::run(&sine, io::stdin().lock(), buffered_output())?),
         ["parts"] => each_vector(|line| replay::parts_line(&sine, line)),
-        ["longitude"] => each_vector(|line| replay::longitude_line(&sine, &polynomial, line)),
+        ["longitude"] => {
+            let bounds = LongitudeBounds::new();
+            each_vector(|line| replay::longitude_line(&sine, &polynomial, &bounds, line))
+        }
         ["sine"] => each_vector(|line| replay::sine_line(&sine, line)),
         ["angle"] => each_vector(|line| replay::angle_line(&sine, line)),
         ["choice"] => each_vector(|line| replay::question_line::<Choice>(&sine, line)),

@@ -1,22 +1,24 @@
-//! Many shots in one call of a library: document 02, request 5. What they answer is what each shot
-//! answers by itself.
+//! Many shots in one call of a library, with the same options: document 02, requests 5 and 7. What
+//! they answer is what each shot answers by itself.
 
 use crate::counts::Counts;
 use crate::lines::joined;
+use crate::options::Options;
 use crate::question::{Question, Shot};
-use crate::random::Random;
+use crate::random::{random_options, shot_fields, Random};
 use crate::sine::Sine;
 
 /// The numbers of a row, and the words of its answer: the refusal's number and four angles.
 const NUMBERS: usize = 11;
 const WORDS: usize = 5;
 
-/// A library's call: rows of numbers and room for words -> how many rows it answered.
-pub type ManyShots<'a> = &'a dyn Fn(&[i64], &mut [u64]) -> u64;
+/// A library's call: rows of numbers, room for words and options -> how many rows it answered.
+pub type ManyShots<'a> = &'a dyn Fn(&[i64], &mut [u64], Options) -> u64;
 
-/// One call: its shots, their numbers with what is left over behind the last row, and what stands
-/// where the answers go.
+/// One call: its options, its shots, their numbers with what is left over behind the last row, and
+/// what stands where the answers go.
 struct Call {
+    options: Options,
     shots: Vec<Shot>,
     rows: Vec<i64>,
     words: Vec<u64>,
@@ -26,9 +28,12 @@ impl Call {
     /// A call of 0 to 60 rows; every third has numbers left over, every third too little room or
     /// too much.
     fn random(random: &mut Random, sine: &Sine) -> Self {
+        let options = random_options(random);
         let count = random.between(0, 60);
-        let shots: Vec<Shot> = (0..count).map(|_| Shot::random(random, sine)).collect();
-        let mut rows: Vec<i64> = shots.iter().flat_map(Shot::numbers).collect();
+        let shots: Vec<Shot> = (0..count)
+            .map(|_| Shot { fields: shot_fields(random, sine, options), options })
+            .collect();
+        let mut rows: Vec<i64> = shots.iter().flat_map(|shot| shot.fields).collect();
         let mut room = WORDS * shots.len();
         match random.between(0, 2) {
             0 => {
@@ -39,7 +44,7 @@ impl Call {
             _ => {}
         }
         let words = (0..room).map(|_| random.bits()).collect();
-        Call { shots, rows, words }
+        Call { options, shots, rows, words }
     }
 }
 
@@ -53,7 +58,7 @@ pub fn compare_many_shots(
     let mut random = Random::new(seed);
     let mut counts = Counts::default();
     while counts.total() < count {
-        let Call { shots, rows, words } = Call::random(&mut random, sine);
+        let Call { options, shots, rows, words } = Call::random(&mut random, sine);
         let mut expected = words.clone();
         for (words, shot) in expected.chunks_exact_mut(WORDS).zip(&shots) {
             let answer = Shot::as_library(shot.answer(sine));
@@ -62,11 +67,11 @@ pub fn compare_many_shots(
             counts.add(shot.outcome(&answer), 1);
         }
         let mut given = words;
-        let answered = library(&rows, &mut given);
+        let answered = library(&rows, &mut given, options);
         let rows_expected = shots.len().min(given.len() / WORDS) as u64;
         if answered != rows_expected || given != expected {
             let line = joined(&rows);
-            return Err(format!("{line}: {expected:?} expected, {given:?} given"));
+            return Err(format!("{options:?}, {line}: {expected:?} expected, {given:?} given"));
         }
     }
     Ok(counts)

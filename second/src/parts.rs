@@ -2,19 +2,21 @@
 
 use crate::arguments::{Arguments, ALL};
 use crate::calendar::Instant;
+use crate::edition::CENTRE;
 use crate::exact::reduce;
 use crate::fieldbook::{reduction, Body, Fields, Reduction};
 use crate::horizon::{Components, HorizonAngles};
+use crate::options::Options;
 use crate::polaris::Polaris;
 use crate::refusal::Refusal;
 use crate::rotation::Direction;
 use crate::series::sum;
 use crate::sine::Sine;
-use crate::sun::{Sun, ABERRATION, CENTRE};
+use crate::sun::{Sun, ABERRATION};
 
 /// The vectors' names of the arguments, in the order of `ALL`.
-const ARGUMENT_NAMES: [&str; 11] =
-    ["L", "Ms", "Mm", "Mv", "D", "Om", "Lm", "obl", "lp1", "lp2", "lp3"];
+const ARGUMENT_NAMES: [&str; 15] =
+    ["L", "Ms", "Mm", "Mv", "D", "Om", "Lm", "obl", "lp1", "lp2", "lp3", "lp4", "MM", "MJ", "Msn"];
 
 /// Names and values with one space between.
 struct Listing(Vec<String>);
@@ -32,8 +34,8 @@ impl Listing {
 }
 
 /// The steps of an answered shot on one line, or its refusal.
-pub fn parts(sine: &Sine, fields: &Fields) -> Result<String, Refusal> {
-    let shot = reduction(sine, fields)?;
+pub fn parts(sine: &Sine, fields: &Fields, options: Options) -> Result<String, Refusal> {
+    let shot = reduction(sine, fields, options)?;
     let angles = shot.horizon_angles(sine)?;
     let mut listing = Listing(Vec::new());
     time(&mut listing, &shot);

@@ -1,9 +1,10 @@
 //! The pointing: the azimuth of a mark from a shot and the horizontal angle between mark and
-//! body. Document 02, request 1.
+//! body. Document 02, requests 1 and 7.
 
 use crate::card::Card;
 use crate::exact::{is_reduced, reduce};
 use crate::fieldbook::{shot, Angles, Fields};
+use crate::options::Options;
 use crate::refusal::Refusal;
 use crate::sine::Sine;
 
@@ -16,14 +17,25 @@ fn mark(shot: Result<Angles, Refusal>, angle: i64) -> Result<i64, Refusal> {
     Ok(reduce(azimuth - angle))
 }
 
-/// The pointing with eleven plain numbers; the refusals of the shot, then 15.
-pub fn pointing(sine: &Sine, fields: &Fields, angle: i64) -> Result<i64, Refusal> {
-    mark(shot(sine, fields), angle)
+/// The pointing with eleven plain numbers and the options of its shot; the refusals of the shot,
+/// then 15.
+pub fn pointing(
+    sine: &Sine,
+    fields: &Fields,
+    angle: i64,
+    options: Options,
+) -> Result<i64, Refusal> {
+    mark(shot(sine, fields, options), angle)
 }
 
 /// The pointing from a card; the refusals of the shot from it, then 15.
-pub fn pointing_from_card(sine: &Sine, card: &Card, angle: i64) -> Result<i64, Refusal> {
-    mark(card.shot(sine), angle)
+pub fn pointing_from_card(
+    sine: &Sine,
+    card: &Card,
+    angle: i64,
+    options: Options,
+) -> Result<i64, Refusal> {
+    mark(card.shot(sine, options), angle)
 }
 
 #[cfg(test)]
@@ -31,25 +43,29 @@ mod tests {
     use super::*;
     use crate::exact::TURN;
 
-    /// The Sun on 31 May 1978.
-    const FIELDS: Fields = [1978, 5, 31, 14, 9, 4_339, 109, 1_573_902, -1_527_135, 1, 113_407];
-    /// Its azimuth in the outside vectors of shots.
-    const AZIMUTH: i64 = 5_652_497_415;
+    /// The Sun on 4 July 1980.
+    const FIELDS: Fields = [1980, 7, 4, 14, 41, 3_294, 245, -922_076, -743_081, 1, 115_194];
+    /// The Sun on 30 April 1976.
+    const OTHER: Fields = [1976, 4, 30, 5, 16, 23_235, -900, 510_911, 6_307_323, 1, 114_724];
 
+    /// The azimuths are those of the outside vectors of shots, one by each edition.
     #[test]
     fn angle_is_subtracted_and_reduced() {
         let sine = Sine::new();
-        let card = Card::confirmed(&FIELDS);
-        let marks = [
-            (0, AZIMUTH),
-            (1, AZIMUTH - 1),
-            (AZIMUTH, 0),
-            (AZIMUTH + 1, TURN - 1),
-            (TURN - 1, AZIMUTH + 1),
-        ];
-        for (angle, mark) in marks {
-            assert_eq!(pointing(&sine, &FIELDS, angle), Ok(mark));
-            assert_eq!(pointing_from_card(&sine, &card, angle), Ok(mark));
+        for (fields, edition, azimuth) in [(FIELDS, 1, 12_170_702_758), (OTHER, 2, 10_126_555_739)]
+        {
+            let (card, options) = (Card::confirmed(&fields), Options { edition });
+            let marks = [
+                (0, azimuth),
+                (1, azimuth - 1),
+                (azimuth, 0),
+                (azimuth + 1, TURN - 1),
+                (TURN - 1, azimuth + 1),
+            ];
+            for (angle, mark) in marks {
+                assert_eq!(pointing(&sine, &fields, angle, options), Ok(mark));
+                assert_eq!(pointing_from_card(&sine, &card, angle, options), Ok(mark));
+            }
         }
     }
 
@@ -58,15 +74,19 @@ mod tests {
         let sine = Sine::new();
         let mut unknown = FIELDS;
         unknown[9] = 3;
+        let known = Options::default();
+        let no_edition = Options { edition: 0 };
         for angle in [-1, TURN, i64::MIN, i64::MAX] {
-            let refused = Err(Refusal::AngleOutOfRange);
-            assert_eq!(pointing(&sine, &FIELDS, angle), refused);
-            assert_eq!(pointing_from_card(&sine, &Card::confirmed(&FIELDS), angle), refused);
-            let refused = Err(Refusal::NoSuchBody);
-            assert_eq!(pointing(&sine, &unknown, angle), refused);
-            assert_eq!(pointing_from_card(&sine, &Card::confirmed(&unknown), angle), refused);
-            let refused = Err(Refusal::FieldNotConfirmed);
-            assert_eq!(pointing_from_card(&sine, &Card::fresh(), angle), refused);
+            let refused = |fields: &Fields, options: Options, refusal: Refusal| {
+                assert_eq!(pointing(&sine, fields, angle, options), Err(refusal));
+                let card = Card::confirmed(fields);
+                assert_eq!(pointing_from_card(&sine, &card, angle, options), Err(refusal));
+            };
+            refused(&FIELDS, known, Refusal::AngleOutOfRange);
+            refused(&FIELDS, no_edition, Refusal::NoSuchEdition);
+            refused(&unknown, no_edition, Refusal::NoSuchBody);
+            let fresh = pointing_from_card(&sine, &Card::fresh(), angle, no_edition);
+            assert_eq!(fresh, Err(Refusal::FieldNotConfirmed));
         }
     }
 }

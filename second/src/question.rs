@@ -4,8 +4,9 @@
 use crate::counts::{answered_or, Outcome};
 use crate::fieldbook::{shot, Fields};
 use crate::lines::{all_numbers, joined, vector_numbers};
+use crate::options::Options;
 use crate::pointing::pointing;
-use crate::random::{pointing_numbers, shot_fields, Random};
+use crate::random::{pointing_numbers, shot_numbers, Random};
 use crate::random_choices::lists;
 use crate::refusal::Refusal;
 use crate::sine::Sine;
@@ -55,7 +56,7 @@ pub trait Question: Sized {
     }
 }
 
-/// A question that a batch program is asked, a line for each.
+/// A question that a batch program is asked, a line for each, with its options at the end.
 pub trait BatchQuestion: Question {
     /// The word in front of each value of the program's answer.
     const NAMES: &'static [&'static str];
@@ -79,10 +80,11 @@ pub fn asked_by_vector<Q: Question>(line: &[u8]) -> Result<Q, Refusal> {
     Q::from_numbers(&vector_numbers(line)?)
 }
 
-/// A shot with eleven numbers.
+/// A shot with eleven numbers and its options.
 #[derive(Clone, Copy, Debug)]
 pub struct Shot {
     pub fields: Fields,
+    pub options: Options,
 }
 
 impl Question for Shot {
@@ -90,24 +92,25 @@ impl Question for Shot {
     const REFUSED: [u64; 4] = [0; 4];
 
     fn outcomes() -> Vec<Outcome> {
-        answered_or((2..=8).chain([17]))
+        answered_or((2..=8).chain([17, 19]))
     }
 
     fn random(random: &mut Random, sine: &Sine) -> Self {
-        Shot { fields: shot_fields(random, sine) }
+        let (fields, options) = shot_numbers(random, sine);
+        Shot { fields, options }
     }
 
     fn from_numbers(numbers: &[i64]) -> Result<Self, Refusal> {
-        let fields = numbers.try_into().map_err(|_| Refusal::MalformedLine)?;
-        Ok(Shot { fields })
+        let (fields, options) = Options::behind(numbers)?;
+        Ok(Shot { fields, options })
     }
 
     fn numbers(&self) -> Vec<i64> {
-        self.fields.to_vec()
+        [self.fields.as_slice(), &self.options.numbers()].concat()
     }
 
     fn answer(&self, sine: &Sine) -> Result<[u64; 4], Refusal> {
-        shot(sine, &self.fields).map(|angles| angles.words())
+        shot(sine, &self.fields, self.options).map(|angles| angles.words())
     }
 }
 
@@ -115,11 +118,12 @@ impl BatchQuestion for Shot {
     const NAMES: &'static [&'static str] = &["az", "zd", "ha", "s"];
 }
 
-/// A pointing with eleven numbers and the horizontal angle.
+/// A pointing with eleven numbers, the horizontal angle and the options of its shot.
 #[derive(Clone, Copy, Debug)]
 pub struct Pointing {
     pub fields: Fields,
     pub angle: i64,
+    pub options: Options,
 }
 
 impl Question for Pointing {
@@ -131,22 +135,21 @@ impl Question for Pointing {
     }
 
     fn random(random: &mut Random, sine: &Sine) -> Self {
-        let (fields, angle) = pointing_numbers(random, sine);
-        Pointing { fields, angle }
+        let (fields, angle, options) = pointing_numbers(random, sine);
+        Pointing { fields, angle, options }
     }
 
     fn from_numbers(numbers: &[i64]) -> Result<Self, Refusal> {
-        let (&angle, fields) = numbers.split_last().ok_or(Refusal::MalformedLine)?;
-        let Shot { fields } = Shot::from_numbers(fields)?;
-        Ok(Pointing { fields, angle })
+        let ([fields @ .., angle], options) = Options::behind::<12>(numbers)?;
+        Ok(Pointing { fields, angle, options })
     }
 
     fn numbers(&self) -> Vec<i64> {
-        [self.fields.as_slice(), &[self.angle]].concat()
+        [self.fields.as_slice(), &[self.angle], &self.options.numbers()].concat()
     }
 
     fn answer(&self, sine: &Sine) -> Result<[u64; 1], Refusal> {
-        pointing(sine, &self.fields, self.angle).map(|mark| [mark as u64])
+        pointing(sine, &self.fields, self.angle, self.options).map(|mark| [mark as u64])
     }
 }
 

@@ -1,9 +1,13 @@
-//! Seeded random shots and pointings, to compare the proved book with this program.
+//! Seeded random shots and pointings with their options, to compare the proved book with this
+//! program.
 
 use crate::angle::angle;
 use crate::calendar::LARGEST_DELTA_T;
+use crate::edition::{FULL, SHORT};
 use crate::exact::{reduce, square_root, QUADRANT, SCALE, TURN};
-use crate::fieldbook::{reduction, shot, Fields, LARGEST_LATITUDE, LARGEST_LONGITUDE};
+use crate::fieldbook::{reduction, shot, Fields, Reduction, LARGEST_LATITUDE, LARGEST_LONGITUDE};
+use crate::options::Options;
+use crate::refusal::Refusal;
 use crate::rotation::Direction;
 use crate::sine::Sine;
 
@@ -77,6 +81,24 @@ pub const EXTREMES: [i64; 14] = [
     0,
 ];
 
+/// Numbers of no edition; some have the low bits of one.
+const NO_EDITIONS: [i64; 14] = [
+    0,
+    3,
+    -1,
+    -2,
+    256 + 1,
+    256 + 2,
+    (1 << 32) + 1,
+    (1 << 32) + 2,
+    -999_999_999_999_999_999,
+    999_999_999_999_999_999,
+    i64::MIN,
+    i64::MIN + 1,
+    i64::MIN + 2,
+    i64::MAX,
+];
+
 /// Dates around every rule of the calendar.
 const EDGE_DATES: [[i64; 3]; 28] = [
     [1975, 12, 31],
@@ -109,33 +131,49 @@ const EDGE_DATES: [[i64; 3]; 28] = [
     [1900, 2, 29],
 ];
 
-/// A shot of one of the kinds below, chosen at random.
-pub fn shot_fields(random: &mut Random, sine: &Sine) -> Fields {
+/// Options: the two editions about as often, and one in eight that is unknown.
+pub fn random_options(random: &mut Random) -> Options {
+    let edition = match random.between(0, 15) {
+        0 => random.choose(&NO_EDITIONS),
+        1 => any_size(random),
+        _ => random.choose(&[SHORT, FULL]),
+    };
+    Options { edition }
+}
+
+/// A shot and its options.
+pub fn shot_numbers(random: &mut Random, sine: &Sine) -> (Fields, Options) {
+    let options = random_options(random);
+    (shot_fields(random, sine, options), options)
+}
+
+/// The numbers of a shot with these options, of one of the kinds below, chosen at random.
+pub fn shot_fields(random: &mut Random, sine: &Sine, options: Options) -> Fields {
     match random.between(0, 10) {
         0..=2 => accepted(random),
         3 => edges(random),
         4 => dates(random),
         5 => leap_seconds(random),
         6 => polar(random),
-        7 => near_zenith(random, sine),
-        8 => near_horizon(random, sine),
+        7 => near_zenith(random, sine, options),
+        8 => near_horizon(random, sine, options),
         9 => delta_t_edges(random),
         _ => any_numbers(random),
     }
 }
 
-/// A shot and a horizontal angle: any, at a limit, out of range, or one unit or less from the
-/// azimuth of the body.
-pub fn pointing_numbers(random: &mut Random, sine: &Sine) -> (Fields, i64) {
-    let fields = shot_fields(random, sine);
+/// A shot, a horizontal angle, which is any, at a limit, out of range, or one unit or less from the
+/// azimuth of the body, and the shot's options.
+pub fn pointing_numbers(random: &mut Random, sine: &Sine) -> (Fields, i64, Options) {
+    let (fields, options) = shot_numbers(random, sine);
     let angle = match random.between(0, 5) {
         0 => random.choose(&[-1, 0, 1, TURN - 1, TURN, TURN + 1]),
         1 => random.choose(&EXTREMES),
         2 => any_size(random),
-        3 => shot(sine, &fields).unwrap_or_default().azimuth + random.between(-1, 1),
+        3 => shot(sine, &fields, options).unwrap_or_default().azimuth + random.between(-1, 1),
         _ => random.between(0, TURN - 1),
     };
-    (fields, angle)
+    (fields, angle, options)
 }
 
 /// A number of any size, each number of bits as likely as another.
@@ -237,6 +275,12 @@ fn any_numbers(random: &mut Random) -> Fields {
     fields
 }
 
+/// Accepted numbers worked by the shot's options, or by the defaults where these are refused.
+fn worked(sine: &Sine, fields: &Fields, options: Options) -> Result<Reduction, Refusal> {
+    let by = |options| reduction(sine, fields, options);
+    by(options).or_else(|_| by(Options::default()))
+}
+
 /// Right ascension and declination of a direction.
 fn place(sine: &Sine, [x, y, z]: Direction) -> (i64, i64) {
     let equatorial = square_root((x * x + y * y) as u64) as i64;
@@ -253,9 +297,9 @@ fn observe(fields: &mut Fields, latitude: i64, longitude: i64) {
 }
 
 /// The body near the zenith or nadir, often 0.01 from it, where refusal 8 ends.
-fn near_zenith(random: &mut Random, sine: &Sine) -> Fields {
+fn near_zenith(random: &mut Random, sine: &Sine, options: Options) -> Fields {
     let mut fields = accepted(random);
-    let Ok(shot) = reduction(sine, &fields) else {
+    let Ok(shot) = worked(sine, &fields, options) else {
         return fields;
     };
     let (right_ascension, declination) = place(sine, shot.body.direction());
@@ -280,9 +324,9 @@ fn near_zenith(random: &mut Random, sine: &Sine) -> Fields {
 }
 
 /// The body within some tenths of a second, or some minutes, of the horizon.
-fn near_horizon(random: &mut Random, sine: &Sine) -> Fields {
+fn near_horizon(random: &mut Random, sine: &Sine, options: Options) -> Fields {
     let mut fields = accepted(random);
-    let Ok(shot) = reduction(sine, &fields) else {
+    let Ok(shot) = worked(sine, &fields, options) else {
         return fields;
     };
     let (right_ascension, declination) = place(sine, shot.body.direction());

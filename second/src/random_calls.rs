@@ -2,6 +2,7 @@
 
 use crate::call::Call;
 use crate::digits::LONGEST;
+use crate::options::Options;
 use crate::random::Random;
 use crate::random_lines::Lines;
 use crate::session::{command, Command};
@@ -91,7 +92,7 @@ fn call(random: &mut Random, command: Command) -> Call {
     match command {
         Command::Hear(field, number) => Call::Hear(field, number),
         Command::Confirm(field) => Call::Confirm(field),
-        Command::Shot => Call::Shot,
+        Command::Shot => Call::Shot(Options::default()),
         Command::Read(field) => {
             let (length, place) = buffer_and_place(random);
             let buffer = (0..length).map(|_| random.bits() as u8).collect();

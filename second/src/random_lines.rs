@@ -2,6 +2,7 @@
 
 use crate::card::LARGEST_HEARD;
 use crate::fieldbook::Fields;
+use crate::options::Options;
 use crate::random::{edge_number, shot_fields, Random};
 use crate::sine::Sine;
 
@@ -110,7 +111,7 @@ impl<'a> Lines<'a> {
     /// The eleven numbers of a random shot whose numbers can all be heard.
     fn hearable_shot(&mut self) -> Fields {
         loop {
-            let fields = shot_fields(&mut self.random, self.sine);
+            let fields = shot_fields(&mut self.random, self.sine, Options::default());
             if fields.iter().all(|&field| is_hearable(field)) {
                 return fields;
             }

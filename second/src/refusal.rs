@@ -1,4 +1,4 @@
-//! The refusals. Document 01, "Refusal numbers", and document 02, requests 1, 3 and 6.
+//! The refusals. Document 01, "Refusal numbers", and document 02, requests 1, 3, 6 and 7.
 
 /// A refusal; its number in the documents is its value.
 #[derive(Clone, Copy, Debug, PartialEq, Eq)]
@@ -21,6 +21,7 @@ pub enum Refusal {
     LengthOutOfRange = 16,
     DeltaTOutOfRange = 17,
     NothingToUndo = 18,
+    NoSuchEdition = 19,
 }
 
 impl Refusal {

@@ -1,5 +1,5 @@
 //! Sums of periodic terms, for any list of terms. Document 01, "The Sun".
-//! The lists themselves stand in `frame` and `sun`.
+//! The lists themselves stand in `frame` and `edition`.
 
 use crate::arguments::{Argument, Arguments};
 use crate::exact::{floor, over_scale, MILLION, MILLION_SQUARED, QUADRANT};
@@ -70,6 +70,12 @@ fn each_term(lists: &[&List], arguments: &Arguments, q: i64, mut take: impl FnMu
             take(term.amplitude.at(q), angle);
         }
     }
+}
+
+/// The sum of all amplitudes at q, each without its sign.
+pub fn absolute_sum(lists: &[&List], q: i64) -> i64 {
+    let terms = lists.iter().flat_map(|list| list.terms);
+    terms.map(|term| term.amplitude.at(q).abs()).sum()
 }
 
 /// The sum with the table sine: products summed exactly, over R once, to nearest.

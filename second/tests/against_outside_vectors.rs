@@ -5,6 +5,7 @@
 
 mod vector_lines;
 
+use second::bound::LongitudeBounds;
 use second::card::Card;
 use second::polynomial::Polynomial;
 use second::question::{asked_by_vector, Choice, Shot};
@@ -17,7 +18,7 @@ use vector_lines::agree;
 #[test]
 fn shot_vectors() {
     let sine = Sine::new();
-    agree(include_str!("data/shot.txt"), 1_975, |line| replay::question_line::<Shot>(&sine, line));
+    agree(include_str!("data/shot.txt"), 1_987, |line| replay::question_line::<Shot>(&sine, line));
 }
 
 #[test]
@@ -52,7 +53,7 @@ fn choice_vectors_without_a_copy() {
 #[test]
 fn parts_vectors() {
     let sine = Sine::new();
-    agree(include_str!("data/parts.txt"), 40, |line| replay::parts_line(&sine, line));
+    agree(include_str!("data/parts.txt"), 60, |line| replay::parts_line(&sine, line));
 }
 
 #[test]
@@ -70,7 +71,8 @@ fn angle_vectors() {
 #[test]
 fn longitude_vectors() {
     let (sine, polynomial) = (Sine::new(), Polynomial::new());
-    agree(include_str!("data/longitude.txt"), 150, |line| {
-        replay::longitude_line(&sine, &polynomial, line)
+    let bounds = LongitudeBounds::new();
+    agree(include_str!("data/longitude.txt"), 200, |line| {
+        replay::longitude_line(&sine, &polynomial, &bounds, line)
     });
 }

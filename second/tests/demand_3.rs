@@ -2,12 +2,14 @@
 //! polynomial longitude.
 
 use second::arguments::{Arguments, ALL};
+use second::bound::LongitudeBounds;
+use second::edition::Edition;
 use second::exact::{QUADRANT, TURN};
 use second::fieldbook::check;
 use second::frame::frame;
+use second::options::Options;
 use second::polynomial::Polynomial;
 use second::random::{accepted, Random};
-use second::replay::LONGITUDE_BOUND;
 use second::sine::Sine;
 use second::sun::{polynomial_longitude, sun};
 
@@ -26,20 +28,24 @@ fn sine_within_30_of_the_polynomial() {
     assert!(worst <= Some(off(farthest)), "{worst:?}");
 }
 
-/// s lies within 4 units of the polynomial longitude, the short way round.
+/// s lies within 4 units of the polynomial longitude by the short edition, within 5 by the other,
+/// the short way round.
 #[test]
-fn longitude_within_4_of_the_polynomial() {
-    let (sine, polynomial) = (Sine::new(), Polynomial::new());
+fn longitude_within_its_bound_of_the_polynomial() {
+    let (sine, polynomial, bounds) = (Sine::new(), Polynomial::new(), LongitudeBounds::new());
     let mut random = Random::new(4);
     for _ in 0..300 {
         let fields = accepted(&mut random);
-        let instant = check(&fields).expect("an accepted instant");
+        let instant = check(&fields, Options::default()).expect("an accepted instant").instant;
         let q = instant.ephemeris.millionths;
         let arguments = Arguments::at(&instant.ephemeris, &ALL);
         let frame = frame(&sine, &instant, &arguments);
-        let s = sun(&sine, &arguments, q, &frame).apparent_longitude;
-        let exact = polynomial_longitude(&polynomial, &arguments, q);
-        let difference = (s - exact).abs();
-        assert!(difference.min(TURN - difference) <= LONGITUDE_BOUND, "{fields:?}");
+        for edition in [Edition::Short, Edition::Full] {
+            let s = sun(&sine, edition, &arguments, q, &frame).apparent_longitude;
+            let exact = polynomial_longitude(&polynomial, edition, &arguments, q);
+            let difference = (s - exact).abs();
+            let within = difference.min(TURN - difference) <= bounds.of(edition);
+            assert!(within, "{edition:?}, {fields:?}");
+        }
     }
 }

@@ -12,9 +12,10 @@ use second::counts::{Counts, Outcome, LEAST};
 use second::digits::LONGEST;
 use second::lent_cards::{
     call_on_words, compare_card_vectors, compare_lent_cards, compare_own_cards,
-    outcomes_of_lent_cards, NO_CARD,
+    outcomes_of_lent_cards, outcomes_of_own_cards, NO_CARD,
 };
 use second::many_shots::compare_many_shots;
+use second::options::Options;
 use second::question::{BatchQuestion, Choice, LibraryAnswer, Pointing, Question, Shot};
 use second::random_calls::{random_calls, Start};
 use second::replay::card_line;
@@ -23,6 +24,8 @@ use second::sine::Sine;
 use std::cell::Cell;
 
 const COUNT: u64 = 20_000;
+/// For what is rare in a history of calls.
+const CARDS: u64 = 200_000;
 
 /// The comparison of this program with a library that answers as it does but for one change.
 fn changed<Q: Question>(change: impl Fn(&Q, &mut LibraryAnswer<Q>)) -> Result<Counts, String> {
@@ -50,23 +53,37 @@ fn libraries_reach_every_outcome() {
     reaches_every_outcome::<Choice>();
 }
 
+/// The answers of many shots, worked one by one: each written to its words, and how many there are.
+fn one_by_one(sine: &Sine, rows: &[i64], words: &mut [u64], options: Options) -> u64 {
+    let mut answered = 0;
+    for (row, words) in rows.chunks_exact(11).zip(words.chunks_exact_mut(5)) {
+        let shot = Shot { fields: row.try_into().expect("eleven numbers"), options };
+        let (refusal, angles) = Shot::as_library(shot.answer(sine));
+        words[0] = refusal;
+        words[1..].copy_from_slice(&angles);
+        answered += 1;
+    }
+    answered
+}
+
 /// The comparison of many shots with a library that works them one by one, but for one change of
 /// the words behind all answers and of the count.
 fn changed_behind(change: impl Fn(&[i64], &mut [u64], &mut u64)) -> Result<Counts, String> {
     let sine = Sine::new();
-    let library = |rows: &[i64], words: &mut [u64]| {
-        let mut answered = 0;
-        for (row, words) in rows.chunks_exact(11).zip(words.chunks_exact_mut(5)) {
-            let shot = Shot::from_numbers(row).expect("eleven numbers");
-            let (refusal, angles) = Shot::as_library(shot.answer(&sine));
-            words[0] = refusal;
-            words[1..].copy_from_slice(&angles);
-            answered += 1;
-        }
+    let library = |rows: &[i64], words: &mut [u64], options: Options| {
+        let mut answered = one_by_one(&sine, rows, words, options);
         change(rows, &mut words[5 * answered as usize..], &mut answered);
         answered
     };
     compare_many_shots(&sine, (1, COUNT), &library)
+}
+
+/// The same with a library that takes some options for others.
+fn options_taken_for(change: impl Fn(Options) -> Options) -> Result<Counts, String> {
+    let sine = Sine::new();
+    compare_many_shots(&sine, (1, COUNT), &|rows, words, options| {
+        one_by_one(&sine, rows, words, change(options))
+    })
 }
 
 #[test]
@@ -86,6 +103,50 @@ fn many_shots_that_differ_are_found() {
     assert!(left_over_counted.is_err());
     let all_rows_counted = changed_behind(|rows, _, answered| *answered = rows.len() as u64 / 11);
     assert!(all_rows_counted.is_err());
+    assert!(options_taken_for(|options| options).is_ok());
+    assert!(options_taken_for(|_| Options::default()).is_err());
+    for change in EDITIONS_TAKEN_FOR {
+        let other_edition =
+            options_taken_for(|options| Options { edition: change(options.edition) });
+        assert!(other_edition.is_err());
+    }
+}
+
+/// Ways to take an edition for another: the other one, an unknown one for a neighbour, or what is
+/// left of it in few bits.
+const EDITIONS_TAKEN_FOR: [fn(i64) -> i64; 8] = [
+    |edition| if edition == 2 { 1 } else { edition },
+    |edition| if edition == 1 { 2 } else { edition },
+    |edition| if edition == 0 { 1 } else { edition },
+    |edition| if edition == 3 { 2 } else { edition },
+    |edition| if edition == -1 { 1 } else { edition },
+    |edition| i64::from(edition as u8),
+    |edition| i64::from(edition as i32),
+    |edition| edition & i64::MAX,
+];
+
+/// An edition that is taken for another is found by shots, by pointings and by shots from cards.
+#[test]
+fn an_edition_taken_for_another_is_found() {
+    let sine = Sine::new();
+    for change in EDITIONS_TAKEN_FOR {
+        let by = |options: Options| Options { edition: change(options.edition) };
+        let shots = changed::<Shot>(|shot, answer| {
+            let taken = Shot { options: by(shot.options), ..*shot };
+            *answer = Shot::as_library(taken.answer(&sine));
+        });
+        assert!(shots.is_err());
+        let pointings = changed::<Pointing>(|pointing, answer| {
+            let taken = Pointing { options: by(pointing.options), ..*pointing };
+            *answer = Pointing::as_library(taken.answer(&sine));
+        });
+        assert!(pointings.is_err());
+        let cards = compare_lent_cards(&sine, (1, CARDS), &mut |call, words, buffer| match *call {
+            Call::Shot(options) => call_on_words(&sine, &Call::Shot(by(options)), words, buffer),
+            _ => call_on_words(&sine, call, words, buffer),
+        });
+        assert!(cards.is_err());
+    }
 }
 
 #[test]
@@ -110,6 +171,41 @@ fn a_library_that_differs_is_found() {
         }
     });
     assert!(delta_t_after_latitude.is_err());
+    let is_known = |shot: &Shot| (1..=2).contains(&shot.options.edition);
+    let edition_before_body = changed::<Shot>(|shot, (number, _)| {
+        if *number == 6 && !is_known(shot) {
+            *number = 19;
+        }
+    });
+    assert!(edition_before_body.is_err());
+    let sine = Sine::new();
+    for behind in [7, 8] {
+        let edition_behind = changed::<Shot>(|shot, (number, _)| {
+            let known = Shot { options: Options::default(), ..*shot };
+            if *number == 19 && Shot::as_library(known.answer(&sine)).0 == behind {
+                *number = behind;
+            }
+        });
+        assert!(edition_behind.is_err());
+    }
+    let no_edition_of_polaris = changed::<Shot>(|shot, answer| {
+        if answer.0 == 19 && shot.fields[9] == 2 {
+            *answer = Shot::as_library(Shot { options: Options::default(), ..*shot }.answer(&sine));
+        }
+    });
+    assert!(no_edition_of_polaris.is_err());
+    let polaris_refused = changed::<Shot>(|shot, answer| {
+        if answer.0 == 0 && shot.fields[9] == 2 && shot.options.edition == 2 {
+            *answer = (19, Shot::REFUSED);
+        }
+    });
+    assert!(polaris_refused.is_err());
+    let angle_before_edition = changed::<Pointing>(|pointing, (number, _)| {
+        if *number == 19 && !(0..12_960_000_000).contains(&pointing.angle) {
+            *number = 15;
+        }
+    });
+    assert!(angle_before_edition.is_err());
     let turn_for_north = changed::<Pointing>(|_, (number, mark)| {
         mark[0] += if *number == 0 && mark[0] == 0 { 12_960_000_000 } else { 0 };
     });
@@ -140,6 +236,37 @@ fn batch_reaches_every_outcome<Q: BatchQuestion>() {
 fn batches_reach_every_outcome() {
     batch_reaches_every_outcome::<Shot>();
     batch_reaches_every_outcome::<Pointing>();
+}
+
+/// Of the answered lines many lack the first edition, many name it and many the second; other lines
+/// have too few numbers or too many.
+fn batch_has_lines_of_each_length<Q: BatchQuestion>(fewest: usize) {
+    let sine = Sine::new();
+    let input = random_batch::<Q>(&sine, 1, COUNT);
+    let answers = batch_answers::<Q>(&sine, &input);
+    let (mut without, mut first, mut second, mut wrong) = (0, 0, 0, 0);
+    let [input, answers] = [input, answers].map(|text| String::from_utf8(text).unwrap());
+    for (line, answer) in input.lines().zip(answers.lines()) {
+        let numbers: Vec<&str> = line.split(' ').collect();
+        match numbers.get(fewest..) {
+            Some([]) => without += u64::from(answer != "no 14"),
+            Some(["1"]) => first += u64::from(answer != "no 14"),
+            Some(["2"]) => second += u64::from(answer != "no 14"),
+            Some([_]) => {}
+            _ => {
+                assert_eq!(answer, "no 14", "{line}");
+                wrong += 1;
+            }
+        }
+    }
+    assert!([without, first, second].iter().all(|&count| count > 1_000));
+    assert!(wrong > 10);
+}
+
+#[test]
+fn batches_have_lines_of_each_length() {
+    batch_has_lines_of_each_length::<Shot>(11);
+    batch_has_lines_of_each_length::<Pointing>(12);
 }
 
 #[test]
@@ -213,6 +340,8 @@ fn calls_are_counted_by_their_form() {
         b"| e\n0 | h5\n0 1 2 3 4 | c5\n0 1 35 | r5\n11 0 - | h5\n1 0 0 0 0 | e\n0 | e\n18 | e\n";
     let counts = Counts::of_calls(calls, answers);
     assert_eq!(counts.to_string(), "answered 1, undone 1, no 1 1, no 11 1, no 18 1, others 3");
+    let by_edition_2 = Call::Shot(Options { edition: 2 }).to_string();
+    assert_eq!(Outcome::of_call(&by_edition_2, "0 1 2 3 4"), Outcome::Answered);
 }
 
 /// The words of a card.
@@ -356,7 +485,7 @@ fn lent_cards_that_differ_are_found() {
         _ => {}
     });
     assert!(refused_hearing_kept.is_err());
-    for refusal in [1, 9, 10, 11, 12, 13, 18, NO_CARD] {
+    for refusal in [1, 9, 10, 11, 12, 13, 18, 19, NO_CARD] {
         let refused_and_written = changed_after(&sine, |_, _, answer, words, _| {
             if answer[0] == refusal {
                 words.iter_mut().take(1).for_each(|word| *word ^= 1);
@@ -364,7 +493,7 @@ fn lent_cards_that_differ_are_found() {
         });
         assert!(refused_and_written.is_err());
     }
-    for refusal in [1, 9, 10, 11, NO_CARD] {
+    for refusal in [1, 9, 10, 11, 19, NO_CARD] {
         let refused_with_a_value = changed_after(&sine, |_, _, answer, _, _| {
             if answer[0] == refusal {
                 answer[1..].fill(1);
@@ -373,11 +502,18 @@ fn lent_cards_that_differ_are_found() {
         assert!(refused_with_a_value.is_err());
     }
     let shot_writes = changed_after(&sine, |call, _, answer, words, _| {
-        if *call == Call::Shot && answer[0] == 0 {
+        if matches!(call, Call::Shot(_)) && answer[0] == 0 {
             words[HEARING..].fill(0);
         }
     });
     assert!(shot_writes.is_err());
+    let edition_before_fields = changed_after(&sine, |call, _, answer, _, _| match *call {
+        Call::Shot(Options { edition }) if answer[0] == 1 && !(1..=2).contains(&edition) => {
+            answer[0] = 19;
+        }
+        _ => {}
+    });
+    assert!(edition_before_fields.is_err());
     let fresh_tests_words = changed_after(&sine, |call, before, answer, words, _| {
         if *call == Call::Fresh && Card::from_words(before).is_none() {
             answer[0] = NO_CARD;
@@ -482,7 +618,7 @@ fn own_cards_are_compared_by_their_fields() {
     let sine = Sine::new();
     let fields = |card: &Card| card.fields().to_vec();
     let counts = own_cards(&sine, |_, _, _| {}, fields).unwrap();
-    assert_eq!(counts.all_reached(&outcomes_of_calls(), 1), Ok(()));
+    assert_eq!(counts.all_reached(&outcomes_of_own_cards(), 1), Ok(()));
     assert_eq!(counts.of(Outcome::Refused(NO_CARD)), 0);
     assert!(counts.total() >= COUNT);
     let not_undone = |call: &Call, before: &Card, card: &mut Card| {

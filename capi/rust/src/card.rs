@@ -1,7 +1,7 @@
 //! The card: the eleven numbers of a shot, each heard, read out and confirmed before the shot takes
 //! it. The rules of each call are those of `capi/fieldbook.h`.
 
-use crate::{accepted, angles, ffi, Refusal, ShotAngles};
+use crate::{accepted, angles, ffi, Options, Refusal, ShotAngles};
 
 /// How many words a card has.
 const WORDS: usize = 25;
@@ -81,8 +81,8 @@ impl Card {
 
     /// The shot with the card's numbers, all of which must be confirmed: its angles, or why there
     /// are none.
-    pub fn shot(&self) -> Result<ShotAngles, Refusal> {
-        angles(ffi::card_shot(&self.words))
+    pub fn shot(&self, options: Options) -> Result<ShotAngles, Refusal> {
+        angles(ffi::card_shot(&self.words, options))
     }
 
     /// What stands in a field, 1 to 11; none where there is no such field.

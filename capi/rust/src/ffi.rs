@@ -1,5 +1,24 @@
-//! The declarations of `capi/fieldbook.h`. They are not public: a caller must not take what stands
-//! in a refused answer for an angle.
+//! The declarations of `capi/fieldbook.h`. But for the options they are not public: a caller must
+//! not take what stands in a refused answer for an angle.
+
+/// How a shot is to be worked, beside its numbers; any numbers may be given.
+///
+/// Later versions will have more members. Take those that you do not set from the default, and your
+/// answers stay:
+///
+/// ```
+/// use fieldbook::{Options, FULL_EDITION, SHORT_EDITION};
+///
+/// let options = Options { edition: FULL_EDITION, ..Options::default() };
+/// assert_eq!(Options::default().edition, SHORT_EDITION);
+/// ```
+#[repr(C)]
+#[derive(Clone, Copy, Debug, PartialEq, Eq)]
+pub struct Options {
+    /// The edition of the Sun's series, for Polaris too, which is the same by both: 1 the short one,
+    /// the default; 2 the full one.
+    pub edition: i64,
+}
 
 /// `struct fieldbook_shot_answer`.
 #[repr(C)]
@@ -50,6 +69,7 @@ extern "C" {
         longitude: i64,
         body: i64,
         delta_t: i64,
+        options: Options,
     ) -> ShotAnswer;
 
     fn fieldbook_shots(
@@ -57,6 +77,7 @@ extern "C" {
         rows_count: usize,
         answers: *mut u64,
         answers_count: usize,
+        options: Options,
     ) -> u64;
 
     fn fieldbook_pointing(
@@ -72,6 +93,7 @@ extern "C" {
         body: i64,
         delta_t: i64,
         angle: i64,
+        options: Options,
     ) -> PointingAnswer;
 
     fn fieldbook_choice(
@@ -98,27 +120,32 @@ extern "C" {
 
     fn fieldbook_card_undo(card: *mut i64, card_count: usize) -> u64;
 
-    fn fieldbook_card_shot(card: *const i64, card_count: usize) -> ShotAnswer;
+    fn fieldbook_card_shot(card: *const i64, card_count: usize, options: Options) -> ShotAnswer;
 }
 
 /// The shot as the static library answers it, with the fields in the card's order.
-pub fn shot(n: [i64; 11]) -> ShotAnswer {
+pub fn shot(n: [i64; 11], options: Options) -> ShotAnswer {
     // SAFETY: the function is proved for all numbers and is lent no memory.
-    unsafe { fieldbook_shot(n[0], n[1], n[2], n[3], n[4], n[5], n[6], n[7], n[8], n[9], n[10]) }
+    unsafe {
+        fieldbook_shot(n[0], n[1], n[2], n[3], n[4], n[5], n[6], n[7], n[8], n[9], n[10], options)
+    }
 }
 
 /// Many shots as the static library answers them: rows of eleven numbers, answers of five words.
-pub fn shots(rows: &[i64], answers: &mut [u64]) -> u64 {
+pub fn shots(rows: &[i64], answers: &mut [u64], options: Options) -> u64 {
+    let (numbers, words) = (rows.len(), answers.len());
     // SAFETY: the function is proved for all lists, reads the one and writes the other, which is
     // borrowed for it alone, and keeps neither pointer.
-    unsafe { fieldbook_shots(rows.as_ptr(), rows.len(), answers.as_mut_ptr(), answers.len()) }
+    unsafe { fieldbook_shots(rows.as_ptr(), numbers, answers.as_mut_ptr(), words, options) }
 }
 
 /// The pointing as the static library answers it.
-pub fn pointing(n: [i64; 11], angle: i64) -> PointingAnswer {
+pub fn pointing(n: [i64; 11], angle: i64, options: Options) -> PointingAnswer {
     // SAFETY: the function is proved for all numbers and is lent no memory.
     unsafe {
-        fieldbook_pointing(n[0], n[1], n[2], n[3], n[4], n[5], n[6], n[7], n[8], n[9], n[10], angle)
+        fieldbook_pointing(
+            n[0], n[1], n[2], n[3], n[4], n[5], n[6], n[7], n[8], n[9], n[10], angle, options,
+        )
     }
 }
 
@@ -163,7 +190,7 @@ pub fn card_undo(card: &mut [i64]) -> u64 {
 }
 
 /// The shot from any words as the static library answers it.
-pub fn card_shot(card: &[i64]) -> ShotAnswer {
+pub fn card_shot(card: &[i64], options: Options) -> ShotAnswer {
     // SAFETY: the function is proved for all words, only reads them, and keeps no pointer.
-    unsafe { fieldbook_card_shot(card.as_ptr(), card.len()) }
+    unsafe { fieldbook_card_shot(card.as_ptr(), card.len(), options) }
 }

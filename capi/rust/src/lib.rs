@@ -5,6 +5,12 @@ mod card;
 mod ffi;
 
 pub use card::{Card, Field};
+pub use ffi::Options;
+
+/// The edition of the Sun's series without Mars, Jupiter and Saturn.
+pub const SHORT_EDITION: i64 = 1;
+/// The edition with them. `capi/fieldbook.h` says how near either comes to the sky.
+pub const FULL_EDITION: i64 = 2;
 
 /// The eleven numbers of a shot; any numbers may be given.
 #[derive(Clone, Copy, Debug, PartialEq, Eq)]
@@ -52,6 +58,7 @@ pub enum Refusal {
     NoDeltaT = 17,
     NoPosition = 5,
     NoBody = 6,
+    NoEdition = 19,
     BelowHorizon = 7,
     NearZenith = 8,
     NoList = 16,
@@ -63,6 +70,12 @@ pub enum Refusal {
     NotRead = 12,
     TooLarge = 13,
     NothingToUndo = 18,
+}
+
+impl Default for Options {
+    fn default() -> Self {
+        Options { edition: SHORT_EDITION }
+    }
 }
 
 impl From<[i64; 11]> for Numbers {
@@ -118,6 +131,7 @@ fn accepted(number: u64) -> Result<(), Refusal> {
         17 => Refusal::NoDeltaT,
         5 => Refusal::NoPosition,
         6 => Refusal::NoBody,
+        19 => Refusal::NoEdition,
         7 => Refusal::BelowHorizon,
         8 => Refusal::NearZenith,
         16 => Refusal::NoList,
@@ -145,16 +159,16 @@ fn angles(a: ffi::ShotAnswer) -> Result<ShotAngles, Refusal> {
 }
 
 /// The shot: its angles, or why there are none.
-pub fn shot(numbers: &Numbers) -> Result<ShotAngles, Refusal> {
-    angles(ffi::shot(numbers.fields()))
+pub fn shot(numbers: &Numbers, options: Options) -> Result<ShotAngles, Refusal> {
+    angles(ffi::shot(numbers.fields(), options))
 }
 
-/// Many shots, each with its own angles or refusal, in the order of their numbers. It builds the
-/// table of the sine once, where a single shot builds it for itself.
-pub fn shots(numbers: &[Numbers]) -> Vec<Result<ShotAngles, Refusal>> {
+/// Many shots, each with its own angles or refusal, in the order of their numbers, with one set of
+/// options for all. It builds the table of the sine once, where a single shot builds it for itself.
+pub fn shots(numbers: &[Numbers], options: Options) -> Vec<Result<ShotAngles, Refusal>> {
     let rows: Vec<i64> = numbers.iter().flat_map(Numbers::fields).collect();
     let mut words = vec![0; 5 * numbers.len()];
-    ffi::shots(&rows, &mut words);
+    ffi::shots(&rows, &mut words, options);
     let answers = words.chunks_exact(5);
     answers.map(|words| answered(words.try_into().expect("five words"))).collect()
 }
@@ -162,8 +176,8 @@ pub fn shots(numbers: &[Numbers]) -> Vec<Result<ShotAngles, Refusal>> {
 /// The pointing: the azimuth of a mark from north, clockwise, in units of 0.0001 second of arc, or
 /// why there is none. The horizontal angle is clockwise from the mark to the body, in the same
 /// units; any number may be given.
-pub fn pointing(numbers: &Numbers, angle: i64) -> Result<u64, Refusal> {
-    let answer = ffi::pointing(numbers.fields(), angle);
+pub fn pointing(numbers: &Numbers, angle: i64, options: Options) -> Result<u64, Refusal> {
+    let answer = ffi::pointing(numbers.fields(), angle, options);
     accepted(answer.refusal)?;
     Ok(answer.mark)
 }

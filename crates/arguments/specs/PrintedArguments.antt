@@ -1,5 +1,6 @@
--- Document 01, "Time" (RULES.md, "Time", the eleven rows): the table of arguments, in degrees as it is printed, and in whole units.
-use mathlib.Core.List.{List, [], _∷_, map}
+-- Document 01, "Time", and document 02, request 7 (RULES.md, "Time", the rows of arguments): the table of arguments, in degrees as it is printed, and in
+-- whole units.
+use mathlib.Core.List.{List, [], _∷_, _++_, map}
 use Prim.Native.Nat.{ℕ}
 use lib.IntN.{ℤ}
 use Rattle.exact.specs.Decimal.{Decimal, plus, minus, degrees}
@@ -25,17 +26,36 @@ printed =
     ∷ row (plus 31_560 2) (plus 89_330 2) (plus 0 0)  -- P3, of the term of 0.202″
     ∷ []
 
+-- and the four that the full edition of the Sun's series takes besides (request 7)
+abbrev pub furtherPrinted : List (List Decimal)
+furtherPrinted =
+    row (plus 318 1) (plus 1_190 1) (plus 0 0)  -- P4, of the long period term of 0.266″ (002, eq. 49)
+    ∷ row (plus 319_529_022 6) (plus 19_139_859_219 6) (plus 181 6)  -- the mean anomaly of Mars (001, 1.3)
+    ∷ row (plus 22_532_833 5) (plus 303_496_202 5) (minus 722 6)  -- of Jupiter (001, 1.3)
+    ∷ row (plus 17_546_622 5) (plus 122_155_147 5) (minus 502 6)  -- of Saturn (001, 1.3)
+    ∷ []
+
 -- in whole units
 unfoldable pub rows : List (List ℤ)
 rows = map (map degrees) printed
+
+unfoldable pub furtherRows : List (List ℤ)
+furtherRows = map (map degrees) furtherPrinted
 
 -- the arguments of an epoch, in that order
 unfoldable pub argumentsOf : Epoch → List ℤ
 argumentsOf e = argumentsBy rows e
 
+-- with those of the full edition behind them
+unfoldable pub fullArgumentsOf : Epoch → List ℤ
+fullArgumentsOf e = argumentsOf e ++ argumentsBy furtherRows e
+
 -- how many there are, and where each stands
 abbrev pub argumentCount : ℕ
 argumentCount = 11
+
+abbrev pub fullCount : ℕ
+fullCount = 15
 
 abbrev pub L : ℕ
 L = 0
@@ -69,3 +89,15 @@ P2 = 9
 
 abbrev pub P3 : ℕ
 P3 = 10
+
+abbrev pub P4 : ℕ
+P4 = 11
+
+abbrev pub Mars : ℕ
+Mars = 12
+
+abbrev pub Jupiter : ℕ
+Jupiter = 13
+
+abbrev pub Saturn : ℕ
+Saturn = 14

@@ -7,7 +7,7 @@ use lib.IntN.{ℤ, natAbs}
 use lib.ListN.{length, getD}
 use Rattle.exact.specs.Nth.{nth}
 use Rattle.exact.specs.Sizes.{AllReduced}
-use Rattle.arguments.specs.PrintedArguments.{argumentCount}
+use Rattle.arguments.specs.PrintedArguments.{argumentCount, fullCount}
 
 pub record RowSized (row : List ℤ) : Type 0 where
   pub c0 : natAbs (nth row 0) ≤ 2 ^ 40
@@ -21,3 +21,8 @@ RowsSized rows = (i : ℕ) → i < length rows → RowSized (getD rows i [])
 pub record IsArguments (angles : List ℤ) : Type 0 where
   pub reduced : AllReduced angles
   pub all : length angles ≡ argumentCount
+
+-- and of a list with those of the full edition
+pub record IsFullArguments (angles : List ℤ) : Type 0 where
+  pub reduced : AllReduced angles
+  pub all : length angles ≡ fullCount

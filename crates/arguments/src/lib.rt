@@ -1,4 +1,4 @@
-// The time arguments of document 01, "Time": angles that grow nearly evenly with time, each a row of three coefficients.
+// The time arguments of document 01, "Time", and document 02, request 7: angles that grow nearly evenly with time, each a row of three coefficients.
 mod tables;
 
 use epoch::Epoch;
@@ -6,8 +6,11 @@ use secular::Polynomial;
 pub use tables::COUNT;
 pub use tables::D;
 pub use tables::EPSILON0;
+pub use tables::FULL_COUNT;
+pub use tables::JUPITER;
 pub use tables::L;
 pub use tables::LM;
+pub use tables::MARS;
 pub use tables::MM;
 pub use tables::MS;
 pub use tables::MV;
@@ -15,14 +18,16 @@ pub use tables::OMEGA;
 pub use tables::P1;
 pub use tables::P2;
 pub use tables::P3;
+pub use tables::P4;
+pub use tables::SATURN;
 ghost use mathlib.Core.Path.{_≡_};
 ghost use Prim.Native.Nat.{_<_};
 ghost use lib.ListN.{length};
 ghost use Rattle.exact.specs.Reduction.{turn};
 ghost use Rattle.epoch.specs.Sizes.{InSpan};
 ghost use Rattle.arguments.specs.Argument.{argument, argumentsBy};
-ghost use Rattle.arguments.specs.PrintedArguments.{argumentsOf};
-ghost use Rattle.arguments.specs.Sizes.{RowSized, RowsSized, IsArguments};
+ghost use Rattle.arguments.specs.PrintedArguments.{furtherRows, argumentsOf, fullArgumentsOf};
+ghost use Rattle.arguments.specs.Sizes.{RowSized, RowsSized, IsArguments, IsFullArguments};
 
 // The angle of a row at an epoch.
 pub fn argument(row: [i64; 3], e: Epoch) -> u64
@@ -56,4 +61,40 @@ pub fn arguments_of(e: Epoch) -> [i64; COUNT]
     let mut angles = [0i64; COUNT];
     fill(&mut angles, &tables::ROWS, e);
     angles
+}
+
+// The four angles that the full edition of the Sun's series takes besides.
+fn further_arguments_of(e: Epoch) -> [i64; 4]
+    requires { ⌜ InSpan e ⌝ }
+    ensures { λ r. ⌜ r ≡ argumentsBy furtherRows e ⌝ }
+{
+    let mut angles = [0i64; 4];
+    fill(&mut angles, &tables::FURTHER_ROWS, e);
+    angles
+}
+
+// The arguments of an epoch with these behind them.
+pub fn full_arguments_of(arguments: &[i64; COUNT], e: Epoch) -> [i64; FULL_COUNT]
+    requires { ⌜ (now arguments ≡ argumentsOf e) × InSpan e ⌝ }
+    ensures { λ r. ⌜ (r ≡ fullArgumentsOf e) × IsFullArguments r ⌝ }
+{
+    let a = *arguments;
+    let b = further_arguments_of(e);
+    [
+        a[0],
+        a[1],
+        a[2],
+        a[3],
+        a[4],
+        a[5],
+        a[6],
+        a[7],
+        a[8],
+        a[9],
+        a[10],
+        b[0],
+        b[1],
+        b[2],
+        b[3],
+    ]
 }

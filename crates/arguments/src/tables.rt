@@ -1,8 +1,10 @@
-// The coefficients of the time arguments (document 01, "Time"), in units of 0.0001 second of arc: at 1900 January 0.5, for a century, for a
+// The coefficients of the time arguments (document 01, "Time"; document 02, request 7), in units of 0.0001 second of arc: at 1900 January 0.5, for a century, for a
 // century squared. Behind each row stand its argument and the printed degrees; the source of each is named in specs/PrintedArguments.antt.
 
-// How many arguments there are.
+// How many arguments there are, and how many with those that the full edition of the Sun's series takes besides.
 pub const COUNT: usize = 11;
+
+pub const FULL_COUNT: usize = 15;
 
 pub const ROWS: [[i64; 3]; COUNT] = [
     [10_069_080_408, 1_296_027_681_300, 10_908], // L: 279.696678, 36000.768925, 0.000303
@@ -16,6 +18,14 @@ pub const ROWS: [[i64; 3]; COUNT] = [
     [8_322_840_000, 727_200_000, 0], // P1: 231.19, 20.20
     [2_060_640_000, 5_409_720_000, 0], // P2: 57.24, 150.27
     [11_361_600_000, 32_158_800_000, 0], // P3: 315.60, 893.30
+];
+
+// Those of the full edition, behind the others.
+pub const FURTHER_ROWS: [[i64; 3]; 4] = [
+    [1_144_800_000, 4_284_000_000, 0], // P4: 31.8, 119.0
+    [11_503_044_792, 689_034_931_884, 6_516], // Mars: 319.529022, 19139.859219, 0.000181
+    [8_111_819_880, 109_258_632_720, -25_992], // Jupiter: 225.32833, 3034.96202, −0.000722
+    [6_316_783_920, 43_975_852_920, -18_072], // Saturn: 175.46622, 1221.55147, −0.000502
 ];
 
 // Where each stands among them; a term of a series names its arguments by these.
@@ -49,3 +59,12 @@ pub const P1: usize = 8;
 pub const P2: usize = 9;
 
 pub const P3: usize = 10;
+
+// And of the full edition: the argument of its long period term of 0.266″, and the mean anomalies of Mars, Jupiter and Saturn.
+pub const P4: usize = 11;
+
+pub const MARS: usize = 12;
+
+pub const JUPITER: usize = 13;
+
+pub const SATURN: usize = 14;

@@ -5,6 +5,7 @@ use lib.IntN.{ℤ}
 use Rattle.lent_card.specs.LentCard.{withCard}
 use Rattle.fieldbook.specs.Shot.{ShotValues, refused, numbersOf, shotFromCard}
 use Rattle.fieldbook.specs.declared.Numbers.{Numbers}
+use Rattle.fieldbook.specs.declared.Options.{Options}
 use Rattle.pointing.specs.Pointing.{PointingValues}
 use Rattle.spread.specs.Spread.{ChoiceValues}
 use Rattle.capi.specs.declared.shots.ShotAnswer.{ShotAnswer}
@@ -27,5 +28,5 @@ abbrev pub choiceAnswerValues : ChoiceAnswer → ChoiceValues
 choiceAnswerValues a = record { refusal = a .refusal; list = a .list; count = a .count }
 
 -- the shot from a card in lent words (RULES.md, "A card in words")
-abbrev pub cardShot : List ℤ → ShotValues
-cardShot ws = withCard ws shotFromCard refused
+abbrev pub cardShot : List ℤ → Options → ShotValues
+cardShot ws o = withCard ws (λ c. shotFromCard c o) refused

@@ -5,7 +5,8 @@ use Prim.Native.Nat.{ℕ, zero, suc, _*_, _/_, min}
 use lib.IntN.{ℤ}
 use lib.ListN.{length, drop}
 use Rattle.card.specs.Fields.{fieldCount}
-use Rattle.fieldbook.specs.Shot.{ShotValues, numbersOf, shot}
+use Rattle.fieldbook.specs.Shot.{ShotValues, numbersOf, query, shot}
+use Rattle.fieldbook.specs.declared.Options.{Options}
 
 -- the words of an answer, in their order
 abbrev pub shotWords : ShotValues → List ℕ
@@ -18,7 +19,7 @@ wordCount = 5
 abbrev pub rowCount : List ℤ → List ℕ → ℕ
 rowCount rows answers = min (length rows / fieldCount) (length answers / wordCount)
 
--- the words of the first k rows; row i begins where i rows end
-unfoldable pub answersTo : ℕ → List ℤ → List ℕ
-answersTo zero rows = []
-answersTo (suc k) rows = answersTo k rows ++ shotWords (shot (numbersOf (drop (fieldCount * k) rows)))
+-- the words of the first k rows, with the same options; row i begins where i rows end
+unfoldable pub answersTo : Options → ℕ → List ℤ → List ℕ
+answersTo o zero rows = []
+answersTo o (suc k) rows = answersTo o k rows ++ shotWords (shot (query (numbersOf (drop (fieldCount * k) rows)) o))

@@ -1,5 +1,6 @@
 // A card in words that the caller lends, and the calls on it. Document 01, "The card"; document 02, request 6.
 use crate::shots::ShotAnswer;
+use fieldbook::Options;
 use lent_card::Call;
 use lent_card::ReadAnswer;
 ghost use mathlib.Core.Path.{_≡_};
@@ -53,17 +54,17 @@ pub extern "C" fn fieldbook_card_read(
     lent_card::read(words, field, buffer, place)
 }
 
-// The shot from the card.
+// The shot from the card, with options.
 #[no_mangle]
-pub extern "C" fn fieldbook_card_shot(words: &[i64]) -> ShotAnswer
-    ensures { λ r. ⌜ (shotAnswerValues r ≡ cardShot (now (words .entry))) × ShotReduced (shotAnswerValues r) ⌝ }
+pub extern "C" fn fieldbook_card_shot(words: &[i64], options: Options) -> ShotAnswer
+    ensures { λ r. ⌜ (shotAnswerValues r ≡ cardShot (now (words .entry)) options) × ShotReduced (shotAnswerValues r) ⌝ }
 {
     let restored = card_words::from_words(words);
     if !restored.whole {
         return crate::shots::refused(lent_card::NO_CARD);
     }
     let card = restored.card;
-    let shot = fieldbook::shot_from_card(card);
+    let shot = fieldbook::shot_from_card(card, options);
     let outcome = shot.outcome;
     crate::shots::answer_of(outcome)
 }

@@ -1,6 +1,8 @@
 // The pointing: the azimuth of a mark. Document 02, request 1.
+use fieldbook::Options;
 use pointing::Mark;
 ghost use mathlib.Core.Path.{_≡_};
+ghost use Rattle.fieldbook.specs.Shot.{query};
 ghost use Rattle.pointing.specs.Pointing.{MarkReduced, pointing};
 ghost use Rattle.capi.specs.Interface.{numbers, pointingAnswerValues};
 
@@ -12,7 +14,8 @@ pub struct PointingAnswer {
     pub mark: u64,
 }
 
-// The pointing with the eleven plain numbers of a shot and the horizontal angle, any number, clockwise from the mark to the body.
+// The pointing with the eleven plain numbers of a shot and its options, and the horizontal angle, any number, clockwise from the mark to
+// the body.
 #[no_mangle]
 pub extern "C" fn fieldbook_pointing(
     year: i64,
@@ -27,8 +30,9 @@ pub extern "C" fn fieldbook_pointing(
     body: i64,
     delta_t: i64,
     angle: i64,
+    options: Options,
 ) -> PointingAnswer
-    ensures { λ r. ⌜ (pointingAnswerValues r ≡ pointing (numbers year month day hour minute millisecond dut1 latitude longitude body «delta_t») angle) × MarkReduced (pointingAnswerValues r) ⌝ }
+    ensures { λ r. ⌜ (pointingAnswerValues r ≡ pointing (query (numbers year month day hour minute millisecond dut1 latitude longitude body «delta_t») options) angle) × MarkReduced (pointingAnswerValues r) ⌝ }
 {
     let fields = [
         year,
@@ -43,7 +47,7 @@ pub extern "C" fn fieldbook_pointing(
         body,
         delta_t,
     ];
-    match pointing::pointing(fieldbook::numbers_of(&fields), angle) {
+    match pointing::pointing(fieldbook::query_with(&fields, options), angle) {
         Mark::Azimuth(mark) => PointingAnswer {
             refusal: 0,
             mark: mark,

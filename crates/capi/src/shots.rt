@@ -1,5 +1,6 @@
-// The shot: where a body stands; and many shots in one call, document 02, request 5.
+// The shot: where a body stands; and many shots in one call, document 02, request 5. Options are a struct that is passed by value, last.
 use card::FIELDS;
+use fieldbook::Options;
 use fieldbook::Outcome;
 use sine_table::SineTable;
 ghost use mathlib.Core.Path.{_≡_};
@@ -8,7 +9,7 @@ ghost use Prim.Native.Nat.{_*_, _≤_};
 ghost use lib.ListN.{length, drop};
 ghost use Rattle.sine_table.specs.Table.{entries};
 ghost use Rattle.card.specs.Fields.{fieldCount};
-ghost use Rattle.fieldbook.specs.Shot.{numbersOf, shotValues, refused, ShotReduced, shot};
+ghost use Rattle.fieldbook.specs.Shot.{numbersOf, query, shotValues, refused, ShotReduced, shot};
 ghost use Rattle.capi.specs.Interface.{numbers, shotAnswerValues};
 ghost use Rattle.capi.specs.Rows.{wordCount, shotWords, rowCount, answersTo};
 
@@ -55,7 +56,7 @@ pub fn answer_of(outcome: Outcome) -> ShotAnswer
     }
 }
 
-// The shot with eleven plain numbers.
+// The shot with eleven plain numbers and options.
 #[no_mangle]
 pub extern "C" fn fieldbook_shot(
     year: i64,
@@ -69,8 +70,9 @@ pub extern "C" fn fieldbook_shot(
     longitude: i64,
     body: i64,
     delta_t: i64,
+    options: Options,
 ) -> ShotAnswer
-    ensures { λ r. ⌜ (shotAnswerValues r ≡ shot (numbers year month day hour minute millisecond dut1 latitude longitude body «delta_t»)) × ShotReduced (shotAnswerValues r) ⌝ }
+    ensures { λ r. ⌜ (shotAnswerValues r ≡ shot (query (numbers year month day hour minute millisecond dut1 latitude longitude body «delta_t») options)) × ShotReduced (shotAnswerValues r) ⌝ }
 {
     let fields = [
         year,
@@ -85,7 +87,7 @@ pub extern "C" fn fieldbook_shot(
         body,
         delta_t,
     ];
-    answer_of(fieldbook::shot(fieldbook::numbers_of(&fields)))
+    answer_of(fieldbook::shot(fieldbook::query_with(&fields, options)))
 }
 
 // Writes the words of an answer at the front of a list.
@@ -101,14 +103,12 @@ fn put(answers: &mut [u64], a: ShotAnswer)
 }
 
 // The shot of the row at the front of a list, its answer at the front of another.
-fn answer_row(t: &SineTable, rows: &[i64], answers: &mut [u64])
+fn answer_row(t: &SineTable, rows: &[i64], answers: &mut [u64], options: Options)
     requires { ⌜ (now t ≡ entries) × (fieldCount ≤ length (now rows)) × (wordCount ≤ length (now answers)) ⌝ }
-    ensures { λ _. ⌜ now (answers .exit) ≡ shotWords (shot (numbersOf (now (rows .entry)))) ++ drop wordCount (now (answers .entry)) ⌝ }
+    ensures { λ _. ⌜ now (answers .exit) ≡ shotWords (shot (query (numbersOf (now (rows .entry))) options)) ++ drop wordCount (now (answers .entry)) ⌝ }
 {
-    put(
-        answers,
-        answer_of(fieldbook::shot_with(t, fieldbook::numbers_of(rows))),
-    );
+    let query = fieldbook::query_with(rows, options);
+    put(answers, answer_of(fieldbook::shot_with(t, query)));
 }
 
 // For how many rows there are numbers, and room for their answers.
@@ -120,17 +120,18 @@ fn row_count(rows: &[i64], answers: &[u64]) -> usize
     if asked < room { asked } else { room }
 }
 
-// The shots of rows of eleven numbers, the answers in rows of five words, with one table of the sine for all of them. As many rows are
-// answered as there are numbers and room for, and this count is returned; words that no answer takes stay as they were.
+// The shots of rows of eleven numbers, the answers in rows of five words, with the same options and one table of the sine for all of
+// them. As many rows are answered as there are numbers and room for, and this count is returned; words that no answer takes stay as they
+// were.
 #[no_mangle]
-pub extern "C" fn fieldbook_shots(rows: &[i64], answers: &mut [u64]) -> u64
+pub extern "C" fn fieldbook_shots(rows: &[i64], answers: &mut [u64], options: Options) -> u64
     ensures { λ r. ⌜ r ≡ rowCount (now (rows .entry)) (now (answers .entry)) ⌝ }
-    ensures { λ r. ⌜ now (answers .exit) ≡ answersTo r (now (rows .entry)) ++ drop (wordCount * r) (now (answers .entry)) ⌝ }
+    ensures { λ r. ⌜ now (answers .exit) ≡ answersTo options r (now (rows .entry)) ++ drop (wordCount * r) (now (answers .entry)) ⌝ }
 {
     let t = sine_table::table();
     let count = row_count(rows, answers);
     for i in 0..count {
-        answer_row(&t, &rows[FIELDS * i..], &mut answers[WORDS * i..]);
+        answer_row(&t, &rows[FIELDS * i..], &mut answers[WORDS * i..], options);
     }
     count as u64
 }

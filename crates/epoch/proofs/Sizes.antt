@@ -12,7 +12,7 @@ use Rattle.exact.specs.Division.{floorDiv}
 use Rattle.exact.proofs.Differences.{split, zs}
 use Rattle.exact.proofs.Division.{floor-mono}
 use Rattle.exact.proofs.Machine.{fits-lt, fits-le}
-use Rattle.epoch.specs.Epoch.{millionths}
+use Rattle.epoch.specs.Epoch.{millionths, firstMillionth, lastMillionth}
 use Rattle.epoch.specs.Sizes.{Span, InSpan}
 use Rattle.epoch.specs.declared.Epoch.{Epoch}
 
@@ -22,7 +22,11 @@ span-size n = rw (split n) (simp zs (omega arith))
 pub span-natural : (n : ℤ) → Span n → pos 0 ≤ℤ n
 span-natural n = rw (split n) (simp zs (omega arith))
 
-pub millionths-range : (n : ℤ) → Span n → (pos 759_986 ≤ℤ millionths n) × (millionths n ≤ℤ pos 1_500_000)
+-- q of an accepted instant
+abbrev pub Millionths : ℤ → Type 0
+Millionths q = (pos firstMillionth ≤ℤ q) × (q ≤ℤ pos lastMillionth)
+
+pub millionths-range : (n : ℤ) → Span n → Millionths (millionths n)
 unfolding millionths floorDiv
 millionths-range n h =
     let s = scaled n h in (
@@ -40,14 +44,17 @@ module _ {e : Epoch} (h : InSpan e) where
   pub n-natural : pos 0 ≤ℤ e .n
   n-natural = span-natural (e .n) (h .span)
 
-  pub q-size : natAbs (e .q) ≤ 1_500_000
-  q-size = subst⁻¹ (λ (z : ℤ). natAbs z ≤ 1_500_000) (h .millionths) (go (millionths (e .n)) (millionths-range (e .n) (h .span)))
+  pub q-range : Millionths (e .q)
+  q-range = subst⁻¹ Millionths (h .millionths) (millionths-range (e .n) (h .span))
+
+  pub q-size : natAbs (e .q) ≤ lastMillionth
+  q-size = go (e .q) q-range
     where
-      go : (z : ℤ) → (pos 759_986 ≤ℤ z) × (z ≤ℤ pos 1_500_000) → natAbs z ≤ 1_500_000
+      go : (z : ℤ) → Millionths z → natAbs z ≤ lastMillionth
       go z = rw (split z) (simp zs (omega arith))
 
   pub n-fits : SFits w64 (e .n)
   n-fits = fits-lt (2 ^ 43) (e .n) n-size refl
 
   pub q-fits : SFits w64 (e .q)
-  q-fits = fits-le 1_500_000 (e .q) q-size refl
+  q-fits = fits-le lastMillionth (e .q) q-size refl

@@ -1,5 +1,5 @@
 -- The laws of ℤ that `lib.IntN` and `lib.Signed` lack: the order's, and bounds on absolute values.
-use mathlib.Core.Path.{_≡_, refl}
+use mathlib.Core.Path.{_≡_, refl, ap}
 use Prim.Native.Nat.{ℕ, zero, suc, _*_, _≤_, _<_}
 use native.Mathlib.Nat.{le-of-suc-le-suc, lt-of-mul-lt-mul-left, mul-le-mul-left, mul-le-mul}
 use native.Mathlib.Omega.{arith}
@@ -23,6 +23,10 @@ within-step d x y z w =
     rw (split x, split y, split z, split w) (simp zs (λ h k l. le-of-suc-le-suc (lt-of-mul-lt-mul-left d (omega arith))))
 
 -- ---- absolute values
+pub abs-zero : (z : ℤ) → natAbs z ≡ 0 → z ≡ pos 0
+abs-zero (pos n) e = ap pos e
+abs-zero (negsuc n) e = absurd (omega arith)
+
 pub abs-neg : (z : ℤ) → natAbs (negℤ z) ≡ natAbs z
 abs-neg (pos zero) = refl
 abs-neg (pos (suc n)) = refl

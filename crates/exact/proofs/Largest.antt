@@ -1,14 +1,15 @@
 -- The laws of `largest`, and of the square root by it: a number that passes, where no larger one does, is the largest, so no proof counts up to it;
--- how a search narrows to it; and that it can be found in two stages, by steps and within one.
+-- how a search narrows to it; and that it can be found in two stages, by steps and within one. The laws of `greatest`: every value of the run is at most
+-- it, and it is at most whatever they all are at most.
 use mathlib.Core.Path.{_≡_, refl, sym, ap, subst, _∙_}
 use mathlib.Core.Bool.{Bool, true, false, cond, true≢false}
 use mathlib.Core.Logic.{⊎-elim}
-use Prim.Native.Nat.{ℕ, zero, suc, _+_, _-_, _*_, _≤_, _<_}
+use Prim.Native.Nat.{ℕ, zero, suc, _+_, _-_, _*_, _≤_, _<_, max}
 use native.Mathlib.Nat.{le-refl, eq-or-lt-of-le, not-suc-le-zero, le-of-suc-le-suc, mul-le-mul, mul-le-mul-left, mul-zero, add-zero, eq-zero-or-pos}
 use native.Mathlib.Omega.{arith}
 use lib.Dec.{leb}
 use borrow.Author.Tests.{le-leb, lt-leb, leb-true, leb-false}
-use Rattle.exact.specs.Largest.{largest, Among, root}
+use Rattle.exact.specs.Largest.{largest, Among, root, greatest}
 
 pub largest-is : (p : ℕ → Bool) (n a : ℕ) → a < n → p a ≡ true → ((b : ℕ) → a < b → b < n → p b ≡ false) → largest p n ≡ a
 unfolding largest
@@ -142,3 +143,23 @@ root-is x r h k =
   where
     above : (b : ℕ) → r < b → (r + 1) * (r + 1) ≤ b * b
     above b u = let l : r + 1 ≤ b = omega arith in mul-le-mul l l
+
+-- ---- the greatest value over a run
+pub greatest-ge : (f : ℕ → ℕ) (low k n : ℕ) → low ≤ n → n ≤ low + k → f n ≤ greatest f low k
+unfolding greatest
+greatest-ge f low zero n l h = let e : n ≡ low = omega arith in rw e (le-refl (f low))
+greatest-ge f low (suc k) n l h = ⊎-elim here (λ u. over (greatest-ge f low k n l (omega arith))) (eq-or-lt-of-le h)
+  where
+    over : f n ≤ greatest f low k → f n ≤ max (f (low + suc k)) (greatest f low k)
+    over b = omega arith
+
+    here : n ≡ low + suc k → f n ≤ max (f (low + suc k)) (greatest f low k)
+    here e = rw e (omega arith)
+
+pub greatest-le : (f : ℕ → ℕ) (low k m : ℕ) → ((n : ℕ) → low ≤ n → n ≤ low + k → f n ≤ m) → greatest f low k ≤ m
+unfolding greatest
+greatest-le f low zero m all = all low (le-refl low) (omega arith)
+greatest-le f low (suc k) m all =
+    let a = all (low + suc k) (omega arith) (le-refl (low + suc k)) in
+    let b = greatest-le f low k m (λ n l h. all n l (omega arith)) in
+    omega arith

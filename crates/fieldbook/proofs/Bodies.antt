@@ -30,10 +30,10 @@ module _ (k : Astrometry) (h : IsAstrometry k) where
 
 -- ---- a body by its direction and its longitude
 module _ (k : Astrometry) (h : IsAstrometry k) where
-  pub sun-is : (s : ℕ) (d : List ℤ) → s ≡ apparentLongitude aberration (k .arguments) (k .epochs .ephemeris .q) → d ≡ Sun.direction s (k .frame .epsilon)
-      → (d ≡ sunDirection (k .epochs .ephemeris)) × (s ≡ sunLongitude (k .epochs .ephemeris))
+  pub sun-is : (edition : ℤ) (s : ℕ) (d : List ℤ) → s ≡ apparentLongitude edition aberration (k .epochs .ephemeris) → d ≡ Sun.direction s (k .frame .epsilon)
+      → (d ≡ sunDirection edition (k .epochs .ephemeris)) × (s ≡ sunLongitude edition (k .epochs .ephemeris))
   unfolding sunDirection sunLongitude
-  sun-is s d e f = let i = h .frame .epsilon in let j = h .arguments in (cc, cc)
+  sun-is edition s d e f = let i = h .frame .epsilon in let j = h .arguments in (cc, cc)
 
   pub polaris-is : (g : ℕ) (d : List ℤ) → g ≡ centreLongitude (k .arguments) (k .epochs .ephemeris .q)
       → d ≡ Polaris.direction (k .epochs .ephemeris) (k .frame .epsilon0) (k .frame .dpsi) (k .frame .epsilon) g

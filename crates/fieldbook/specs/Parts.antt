@@ -7,20 +7,26 @@ use Rattle.site.specs.Site.{position}
 use Rattle.site.specs.declared.Site.{Site}
 use Rattle.site.specs.declared.Position.{Position}
 use Rattle.horizon.specs.Horizon.{View, sightTests}
-use Rattle.fieldbook.specs.Shot.{ShotValues, refused, answered, sunLongitude, sunDirection, polarisDirection, viewAt, testsFrom, testsAt, answerFrom}
+use Rattle.fieldbook.specs.Shot.{ShotValues, refused, answered, sunLongitude, sunDirection, polarisDirection, longitudeOf, viewAt, bodyView, testsFrom, testsAt, answerFrom}
+use Rattle.fieldbook.specs.declared.Options.{Options}
 
 -- a view's refusals, or its angles with s
 abbrev pub sightedShot : View → ℕ → ShotValues
 sightedShot v s = decided (sightTests v) (answered v s) refused
 
-unfoldable pub sunShot : Epochs → Position → ShotValues
-sunShot es p = sightedShot (viewAt es p (sunDirection (es .ephemeris))) (sunLongitude (es .ephemeris))
+unfoldable pub sunShot : ℤ → Epochs → Position → ShotValues
+sunShot edition es p = sightedShot (viewAt es p (sunDirection edition (es .ephemeris))) (sunLongitude edition (es .ephemeris))
 
 unfoldable pub polarisShot : Epochs → Position → ShotValues
 polarisShot es p = sightedShot (viewAt es p (polarisDirection (es .ephemeris))) 0
 
-unfoldable pub shotFrom : Epochs → Position → ℤ → ShotValues
-shotFrom es p body = decided (testsFrom es p body) (answerFrom es p body) refused
+-- of a body and with options that are known
+unfoldable pub shotOf : Epochs → Position → ℤ → Options → ShotValues
+shotOf es p body o = sightedShot (bodyView es p body o) (longitudeOf (es .ephemeris) body o)
 
-unfoldable pub shotAt : Epochs → Site → ℤ → ShotValues
-shotAt es site body = decided (testsAt es site body) (answerFrom es (position site) body) refused
+-- of any
+unfoldable pub shotFrom : Epochs → Position → ℤ → Options → ShotValues
+shotFrom es p body o = decided (testsFrom es p body o) (answerFrom es p body o) refused
+
+unfoldable pub shotAt : Epochs → Site → ℤ → Options → ShotValues
+shotAt es site body o = decided (testsAt es site body o) (answerFrom es (position site) body o) refused

@@ -1,5 +1,5 @@
 // The shot: where the Sun or Polaris stands for eleven numbers, or for a card. Document 01, "Refusal numbers", "The horizon"; document 02,
-// request 3 (field 11).
+// requests 3 (field 11) and 7 (the edition).
 use calendar::CivilTime;
 use calendar::Epochs;
 use calendar::Instant;
@@ -22,15 +22,33 @@ ghost use Rattle.site.specs.Sizes.{PositionSized};
 ghost use Rattle.horizon.specs.Horizon.{View, sightOf, sightValues};
 ghost use Rattle.horizon.specs.Sizes.{SightReduced};
 ghost use Rattle.card.specs.Fields.{fieldCount};
-ghost use Rattle.fieldbook.specs.Shot.{numbersOf, shotValues, ShotReduced, shot, shotFromCard};
-ghost use Rattle.fieldbook.specs.Parts.{sightedShot, sunShot, polarisShot, shotFrom, shotAt};
+ghost use Rattle.fieldbook.specs.Shot.{numbersOf, optionsOf, query, queryOf, shotValues, ShotReduced, shot, shotFromCard};
+ghost use Rattle.fieldbook.specs.Parts.{sightedShot, sunShot, polarisShot, shotOf, shotFrom, shotAt};
 ghost use Rattle.fieldbook.specs.Astrometry.{IsAstrometry};
 
-// What a shot is asked with: fields 1 to 7 and 11 of the card, 8 and 9, and 10.
+// The numbers of a shot: fields 1 to 7 and 11 of the card, 8 and 9, and 10.
 pub struct Numbers {
     pub time: CivilTime,
     pub site: Site,
     pub body: i64,
+}
+
+// How a shot is worked, any numbers: the edition of the Sun's series, 1 short or 2 full. Laid out as in C.
+#[repr(C)]
+pub struct Options {
+    pub edition: i64,
+}
+
+// The options of a caller who names none.
+pub const DEFAULTS: Options = Options { edition: 1 };
+
+// How many options there are.
+pub const OPTIONS: usize = 1;
+
+// What a shot is asked with.
+pub struct Query {
+    pub numbers: Numbers,
+    pub options: Options,
 }
 
 // An answered shot, in units of 0.0001 second of arc: the azimuth from north clockwise, the zenith distance, the hour angle, and the
@@ -86,6 +104,36 @@ pub fn numbers_of(fields: &[i64]) -> Numbers
     }
 }
 
+// The options of a list, in the order above; those that it leaves out are the defaults.
+pub fn options_of(list: &[i64]) -> Options
+    ensures { λ r. ⌜ r ≡ optionsOf (now (list .entry)) ⌝ }
+{
+    if list.len() == 0 {
+        return DEFAULTS;
+    }
+    Options { edition: list[0] }
+}
+
+// What the numbers of the fields ask with options.
+pub fn query_with(fields: &[i64], options: Options) -> Query
+    requires { ⌜ fieldCount ≤ length (now fields) ⌝ }
+    ensures { λ r. ⌜ r ≡ query (numbersOf (now (fields .entry))) options ⌝ }
+{
+    let numbers = numbers_of(fields);
+    Query {
+        numbers: numbers,
+        options: options,
+    }
+}
+
+// What a list asks: the numbers of the fields stand first in it, and the options from a place on to its end.
+pub fn query_of(list: &[i64], options_at: usize) -> Query
+    requires { ⌜ (fieldCount ≤ length (now list)) × («options_at» ≤ length (now list)) ⌝ }
+    ensures { λ r. ⌜ r ≡ queryOf (now (list .entry)) «options_at» ⌝ }
+{
+    query_with(list, options_of(&list[options_at..]))
+}
+
 // A sight as a shot's answer, with s.
 fn sighted_shot(sighting: Sighting, longitude: u64) -> Outcome
     requires { ⌜ SightReduced sighting × (longitude < turn) ⌝ }
@@ -119,15 +167,16 @@ fn astrometry_of(t: &SineTable, epochs: Epochs) -> Astrometry
     }
 }
 
-// The Sun from a position.
-fn sun_shot(t: &SineTable, astrometry: Astrometry, position: Position) -> Outcome
+// The Sun from a position, by an edition of its series.
+fn sun_shot(t: &SineTable, edition: i64, astrometry: Astrometry, position: Position) -> Outcome
     requires { ⌜ (now t ≡ entries) × IsAstrometry astrometry × PositionSized position ⌝ }
-    ensures { λ r. ⌜ (shotValues r ≡ sunShot (astrometry .epochs) position) × ShotReduced (shotValues r) ⌝ }
+    ensures { λ r. ⌜ (shotValues r ≡ sunShot edition (astrometry .epochs) position) × ShotReduced (shotValues r) ⌝ }
 {
     let arguments = astrometry.arguments;
     let e = astrometry.epochs.ephemeris;
-    let s = sun::apparent_longitude(t, &arguments, e, astrometry.frame.dpsi, sun::ABERRATION);
-    let d = sun::direction(t, s, astrometry.frame.epsilon);
+    let f = astrometry.frame;
+    let s = sun::apparent_longitude(t, edition, &arguments, e, f.dpsi, sun::ABERRATION);
+    let d = sun::direction(t, s, f.epsilon);
     sighted_shot(horizon::sight(t, d, astrometry.sidereal, position), s)
 }
 
@@ -144,50 +193,75 @@ fn polaris_shot(t: &SineTable, astrometry: Astrometry, position: Position) -> Ou
     sighted_shot(horizon::sight(t, d, astrometry.sidereal, position), 0)
 }
 
-// An accepted instant from a position, of any body: the body's refusal, then its shot.
-fn shot_from(t: &SineTable, epochs: Epochs, position: Position, body: i64) -> Outcome
+// An accepted instant from a position, of a body and by an edition: the shot of the body, where both are known.
+fn shot_of(
+    t: &SineTable,
+    epochs: Epochs,
+    position: Position,
+    body: i64,
+    options: Options,
+) -> Outcome
     requires { ⌜ (now t ≡ entries) × (InSpan (epochs .universal) × InSpan (epochs .ephemeris)) × PositionSized position ⌝ }
-    ensures { λ r. ⌜ (shotValues r ≡ shotFrom epochs position body) × ShotReduced (shotValues r) ⌝ }
+    ensures { λ r. ⌜ (shotValues r ≡ shotOf epochs position body options) × ShotReduced (shotValues r) ⌝ }
 {
-    if !exact::between(1, body, 2) {
-        return Outcome::Refused(Refusal::NoBody);
-    }
     let astrometry = astrometry_of(t, epochs);
     if body == 1 {
-        sun_shot(t, astrometry, position)
+        sun_shot(t, options.edition, astrometry, position)
     } else {
         polaris_shot(t, astrometry, position)
     }
 }
 
-// An accepted instant from any site, of any body.
-fn shot_at(t: &SineTable, epochs: Epochs, site: Site, body: i64) -> Outcome
+// The same of any body and edition: their refusals, then the shot.
+fn shot_from(
+    t: &SineTable,
+    epochs: Epochs,
+    position: Position,
+    body: i64,
+    options: Options,
+) -> Outcome
+    requires { ⌜ (now t ≡ entries) × (InSpan (epochs .universal) × InSpan (epochs .ephemeris)) × PositionSized position ⌝ }
+    ensures { λ r. ⌜ (shotValues r ≡ shotFrom epochs position body options) × ShotReduced (shotValues r) ⌝ }
+{
+    if !exact::between(1, body, 2) {
+        return Outcome::Refused(Refusal::NoBody);
+    }
+    if !exact::between(1, options.edition, 2) {
+        return Outcome::Refused(Refusal::NoEdition);
+    }
+    shot_of(t, epochs, position, body, options)
+}
+
+// An accepted instant from any site, of any body, with any options.
+fn shot_at(t: &SineTable, epochs: Epochs, site: Site, body: i64, options: Options) -> Outcome
     requires { ⌜ (now t ≡ entries) × (InSpan (epochs .universal) × InSpan (epochs .ephemeris)) ⌝ }
-    ensures { λ r. ⌜ (shotValues r ≡ shotAt epochs site body) × ShotReduced (shotValues r) ⌝ }
+    ensures { λ r. ⌜ (shotValues r ≡ shotAt epochs site body options) × ShotReduced (shotValues r) ⌝ }
 {
     match site::position_of(site) {
-        Located::At(position) => shot_from(t, epochs, position, body),
+        Located::At(position) => shot_from(t, epochs, position, body, options),
         Located::Refused(refusal) => Outcome::Refused(refusal),
     }
 }
 
-// The shot with plain numbers, any numbers, with the sine's table lent: a caller of many shots names it once.
-pub fn shot_with(t: &SineTable, numbers: Numbers) -> Outcome
+// The shot with plain numbers, any numbers and options, with the sine's table lent: a caller of many shots names it once.
+pub fn shot_with(t: &SineTable, query: Query) -> Outcome
     requires { ⌜ now t ≡ entries ⌝ }
-    ensures { λ r. ⌜ (shotValues r ≡ shot numbers) × ShotReduced (shotValues r) ⌝ }
+    ensures { λ r. ⌜ (shotValues r ≡ shot query) × ShotReduced (shotValues r) ⌝ }
 {
+    let numbers = query.numbers;
+    let options = query.options;
     match calendar::instant_of(numbers.time) {
-        Instant::Accepted(epochs) => shot_at(t, epochs, numbers.site, numbers.body),
+        Instant::Accepted(epochs) => shot_at(t, epochs, numbers.site, numbers.body, options),
         Instant::Refused(refusal) => Outcome::Refused(refusal),
     }
 }
 
 // The same, with a table of its own.
-pub fn shot(numbers: Numbers) -> Outcome
-    ensures { λ r. ⌜ (shotValues r ≡ shot numbers) × ShotReduced (shotValues r) ⌝ }
+pub fn shot(query: Query) -> Outcome
+    ensures { λ r. ⌜ (shotValues r ≡ shot query) × ShotReduced (shotValues r) ⌝ }
 {
     let t = sine_table::table();
-    shot_with(&t, numbers)
+    shot_with(&t, query)
 }
 
 // An outcome, with the card that it came from.
@@ -200,26 +274,26 @@ fn with_card(outcome: Outcome, card: Card) -> CardShot
     }
 }
 
-// The shot from a card, with the sine's table lent: refusal 1 where a field is not confirmed, else the shot with its confirmed numbers. The
-// card is answered as it was given.
-pub fn shot_from_card_with(t: &SineTable, card: Card) -> CardShot
+// The shot from a card, with any options and the sine's table lent: refusal 1 where a field is not confirmed, else the shot with its
+// confirmed numbers. The card is answered as it was given.
+pub fn shot_from_card_with(t: &SineTable, card: Card, options: Options) -> CardShot
     requires { ⌜ now t ≡ entries ⌝ }
-    ensures { λ r. ⌜ (shotValues (r .outcome) ≡ shotFromCard card) × (r .card ≡ card) × ShotReduced (shotValues (r .outcome)) ⌝ }
+    ensures { λ r. ⌜ (shotValues (r .outcome) ≡ shotFromCard card options) × (r .card ≡ card) × ShotReduced (shotValues (r .outcome)) ⌝ }
 {
     let confirmed = card::confirmed_numbers(card);
     let verdict = confirmed.verdict;
     let fields = confirmed.numbers;
-    let numbers = numbers_of(&fields);
+    let query = query_with(&fields, options);
     match verdict {
-        Verdict::Accepted => with_card(shot_with(t, numbers), card),
+        Verdict::Accepted => with_card(shot_with(t, query), card),
         Verdict::Refused(refusal) => with_card(Outcome::Refused(refusal), card),
     }
 }
 
 // The same, with a table of its own.
-pub fn shot_from_card(card: Card) -> CardShot
-    ensures { λ r. ⌜ (shotValues (r .outcome) ≡ shotFromCard card) × (r .card ≡ card) × ShotReduced (shotValues (r .outcome)) ⌝ }
+pub fn shot_from_card(card: Card, options: Options) -> CardShot
+    ensures { λ r. ⌜ (shotValues (r .outcome) ≡ shotFromCard card options) × (r .card ≡ card) × ShotReduced (shotValues (r .outcome)) ⌝ }
 {
     let t = sine_table::table();
-    shot_from_card_with(&t, card)
+    shot_from_card_with(&t, card, options)
 }

@@ -9,7 +9,8 @@ use Rattle.refusal.specs.Tests.{Test, test, decided}
 use Rattle.exact.specs.Reduction.{turn, isReduced, reduced}
 use Rattle.card.specs.declared.Card.{Card}
 use Rattle.fieldbook.specs.Shot.{ShotValues, shot, shotFromCard}
-use Rattle.fieldbook.specs.declared.Numbers.{Numbers}
+use Rattle.fieldbook.specs.declared.Options.{Options}
+use Rattle.fieldbook.specs.declared.Query.{Query}
 use Rattle.pointing.specs.declared.Mark.{Mark}
 use Rattle.pointing.specs.declared.Mark.the-variants.{Azimuth, Refused}
 
@@ -46,8 +47,8 @@ unfoldable pub pointed : ShotValues → ℤ → PointingValues
 pointed v angle = decided (pointingTests v angle) (answered (markAzimuth (v .azimuth) angle)) refused
 
 -- with plain numbers, and from a card
-abbrev pub pointing : Numbers → ℤ → PointingValues
+abbrev pub pointing : Query → ℤ → PointingValues
 pointing x angle = pointed (shot x) angle
 
-abbrev pub pointingFromCard : Card → ℤ → PointingValues
-pointingFromCard c angle = pointed (shotFromCard c) angle
+abbrev pub pointingFromCard : Card → Options → ℤ → PointingValues
+pointingFromCard c o angle = pointed (shotFromCard c o) angle

@@ -1,7 +1,8 @@
 // The pointing: the azimuth of a reference mark, from a shot of a body and the horizontal angle between the two. Document 02, request 1.
 use card::Card;
-use fieldbook::Numbers;
+use fieldbook::Options;
 use fieldbook::Outcome;
+use fieldbook::Query;
 use refusal::Refusal;
 use sine_table::SineTable;
 ghost use mathlib.Core.Path.{_≡_};
@@ -37,28 +38,33 @@ fn pointed(outcome: Outcome, angle: i64) -> Mark
     }
 }
 
-// The pointing with plain numbers, any numbers, with the sine's table lent: a caller of many pointings names it once.
-pub fn pointing_with(t: &SineTable, numbers: Numbers, angle: i64) -> Mark
+// The pointing with plain numbers, any numbers and options, with the sine's table lent: a caller of many pointings names it once.
+pub fn pointing_with(t: &SineTable, query: Query, angle: i64) -> Mark
     requires { ⌜ now t ≡ entries ⌝ }
-    ensures { λ r. ⌜ (pointingValues r ≡ pointing numbers angle) × MarkReduced (pointingValues r) ⌝ }
+    ensures { λ r. ⌜ (pointingValues r ≡ pointing query angle) × MarkReduced (pointingValues r) ⌝ }
 {
-    pointed(fieldbook::shot_with(t, numbers), angle)
+    pointed(fieldbook::shot_with(t, query), angle)
 }
 
 // The same, with a table of its own.
-pub fn pointing(numbers: Numbers, angle: i64) -> Mark
-    ensures { λ r. ⌜ (pointingValues r ≡ pointing numbers angle) × MarkReduced (pointingValues r) ⌝ }
+pub fn pointing(query: Query, angle: i64) -> Mark
+    ensures { λ r. ⌜ (pointingValues r ≡ pointing query angle) × MarkReduced (pointingValues r) ⌝ }
 {
     let t = sine_table::table();
-    pointing_with(&t, numbers, angle)
+    pointing_with(&t, query, angle)
 }
 
-// The pointing from a card, with the sine's table lent. The card is answered as it was given.
-pub fn pointing_from_card_with(t: &SineTable, card: Card, angle: i64) -> CardPointing
+// The pointing from a card, with any options and the sine's table lent. The card is answered as it was given.
+pub fn pointing_from_card_with(
+    t: &SineTable,
+    card: Card,
+    options: Options,
+    angle: i64,
+) -> CardPointing
     requires { ⌜ now t ≡ entries ⌝ }
-    ensures { λ r. ⌜ (pointingValues (r .mark) ≡ pointingFromCard card angle) × (r .card ≡ card) × MarkReduced (pointingValues (r .mark)) ⌝ }
+    ensures { λ r. ⌜ (pointingValues (r .mark) ≡ pointingFromCard card options angle) × (r .card ≡ card) × MarkReduced (pointingValues (r .mark)) ⌝ }
 {
-    let shot = fieldbook::shot_from_card_with(t, card);
+    let shot = fieldbook::shot_from_card_with(t, card, options);
     let kept = shot.card;
     let outcome = shot.outcome;
     let mark = pointed(outcome, angle);
@@ -69,9 +75,9 @@ pub fn pointing_from_card_with(t: &SineTable, card: Card, angle: i64) -> CardPoi
 }
 
 // The same, with a table of its own.
-pub fn pointing_from_card(card: Card, angle: i64) -> CardPointing
-    ensures { λ r. ⌜ (pointingValues (r .mark) ≡ pointingFromCard card angle) × (r .card ≡ card) × MarkReduced (pointingValues (r .mark)) ⌝ }
+pub fn pointing_from_card(card: Card, options: Options, angle: i64) -> CardPointing
+    ensures { λ r. ⌜ (pointingValues (r .mark) ≡ pointingFromCard card options angle) × (r .card ≡ card) × MarkReduced (pointingValues (r .mark)) ⌝ }
 {
     let t = sine_table::table();
-    pointing_from_card_with(&t, card, angle)
+    pointing_from_card_with(&t, card, options, angle)
 }

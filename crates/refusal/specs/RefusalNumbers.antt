@@ -2,7 +2,7 @@
 -- stands for no refusal.
 use Prim.Native.Nat.{ℕ}
 use Rattle.refusal.specs.declared.Refusal.{Refusal}
-use Rattle.refusal.specs.declared.Refusal.the-variants.{NotConfirmed, NoDate, NoTime, NoDut1, NoPosition, NoBody, BelowHorizon, NearZenith, NoField, EmptyField, NoRoom, NotRead, TooLarge, Malformed, NoAngle, NoList, NoDeltaT, NothingToUndo}
+use Rattle.refusal.specs.declared.Refusal.the-variants.{NotConfirmed, NoDate, NoTime, NoDut1, NoPosition, NoBody, BelowHorizon, NearZenith, NoField, EmptyField, NoRoom, NotRead, TooLarge, Malformed, NoAngle, NoList, NoDeltaT, NothingToUndo, NoEdition}
 use Rattle.refusal.specs.declared.Verdict.{Verdict}
 use Rattle.refusal.specs.declared.Verdict.the-variants.{Accepted, Refused}
 
@@ -25,10 +25,11 @@ numberOf NoAngle = 15
 numberOf NoList = 16
 numberOf NoDeltaT = 17
 numberOf NothingToUndo = 18
+numberOf NoEdition = 19
 
 -- the largest of them
 abbrev pub largestNumber : ℕ
-largestNumber = 18
+largestNumber = 19
 
 abbrev pub verdictNumber : Verdict → ℕ
 verdictNumber Accepted = 0

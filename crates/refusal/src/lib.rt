@@ -3,7 +3,7 @@ ghost use mathlib.Core.Path.{_≡_};
 ghost use Prim.Native.Nat.{_≤_};
 ghost use Rattle.refusal.specs.RefusalNumbers.{numberOf, largestNumber};
 
-// Why a call is refused, in the order of the numbers: 1 to 14 of document 01, 15 to 18 of document 02.
+// Why a call is refused, in the order of the numbers: 1 to 14 of document 01, 15 to 19 of document 02.
 pub enum Refusal {
     // 1: a shot from a card on which some field is not confirmed.
     NotConfirmed,
@@ -41,6 +41,8 @@ pub enum Refusal {
     NoDeltaT,
     // 18: an undo where no hearing is left to undo.
     NothingToUndo,
+    // 19: no edition of the Sun's series has this number.
+    NoEdition,
 }
 
 // What a call that gives nothing but a refusal answers.
@@ -72,5 +74,6 @@ pub fn number_of(refusal: Refusal) -> u64
         Refusal::NoList => 16,
         Refusal::NoDeltaT => 17,
         Refusal::NothingToUndo => 18,
+        Refusal::NoEdition => 19,
     }
 }

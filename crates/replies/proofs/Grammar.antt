@@ -1,28 +1,39 @@
 -- What a line asks, by the numbers of a row and by its first bytes.
-use mathlib.Core.Path.{_≡_, refl}
+use mathlib.Core.Path.{_≡_, refl, sym, ap, _∙_}
+use mathlib.Core.Bool.{Bool, true, cond}
 use mathlib.Core.List.{List, [], _∷_}
-use Prim.Native.Nat.{ℕ, _<_, _≤_}
+use Prim.Native.Nat.{ℕ, _+_, _≤_}
 use native.Mathlib.Omega.{arith}
+use lib.Dec.{leb}
 use lib.IntN.{ℤ, pos}
 use lib.ListN.{length, take, drop, getD, length-take}
-use lib.Seq.{getD-take}
-use borrow.Author.Tests.{eq-eqb, ne-eqb}
+use lib.Seq.{getD-take, length-take-le}
+use borrow.Author.Tests.{eq-eqb, ne-eqb, leb-true}
 use Rattle.exact.specs.Nth.{nth}
+use Rattle.exact.proofs.Machine.{and-true}
+use Rattle.card.specs.Fields.{fieldCount}
+use Rattle.fieldbook.specs.Shot.{optionCount}
 use Rattle.lines.specs.Numerals.{numbersOf, rowLength}
 use Rattle.replies.specs.Commands.{fieldCommand, letterCommand, sessionCommand}
-use Rattle.replies.specs.Answers.{refusalText, numbersAsked, askedText, batchText}
+use Rattle.replies.specs.Answers.{refusalText, numbersAsked, isAsked, askedText, batchText}
 use Rattle.replies.specs.declared.Command.the-variants.{Hear, Shoot, Malformed}
 use Rattle.replies.specs.declared.Question.{Question}
 use Rattle.replies.specs.declared.Question.the-variants.{Shot, Pointing}
 
--- a question takes some numbers, and no more than a row has
-pub asked-some : (q : Question) → 0 < numbersAsked q
-asked-some Shot = omega arith
-asked-some Pointing = omega arith
+-- a question takes a number for each field, and with its options no more than a row has
+pub asked-fields : (q : Question) → fieldCount ≤ numbersAsked q
+asked-fields Shot = omega arith
+asked-fields Pointing = omega arith
 
-pub asked-few : (q : Question) → numbersAsked q ≤ rowLength
+pub asked-few : (q : Question) → numbersAsked q + optionCount ≤ rowLength
 asked-few Shot = omega arith
 asked-few Pointing = omega arith
+
+-- what the test of a count says
+pub asked-count : (q : Question) (n : ℕ) → isAsked q n ≡ true → (numbersAsked q ≤ n) × (n ≤ numbersAsked q + optionCount)
+asked-count q n e =
+    let h = and-true (leb (numbersAsked q) n) (leb n (numbersAsked q + optionCount)) e in
+    (leb-true _ _ (h .0), leb-true _ _ (h .1))
 
 -- by the first n numbers of a row's array
 module _ (a : List ℤ) (full : length a ≡ rowLength) (n : ℕ) where
@@ -44,12 +55,11 @@ module _ (a : List ℤ) (full : length a ≡ rowLength) (n : ℕ) where
     pub names-none : (n ≡ 1 → ⊥) → Malformed ≡ letterCommand c (take n a)
     names-none d = let l = length-take n a in rw (ne-eqb c 72 h, ne-eqb (length (take n a)) 1 λ e. d (omega arith))
 
-  module _ (q : Question) where
-    pub asks : n ≡ numbersAsked q → askedText q (take (numbersAsked q) a) ≡ batchText q (take n a)
-    asks e = let l = length-take (numbersAsked q) a in let f = asked-few q in rw (e, eq-eqb (length (take (numbersAsked q) a)) (numbersAsked q) (omega arith))
-
-    pub asks-not : n ≤ rowLength → (n ≡ numbersAsked q → ⊥) → refusalText 14 ≡ batchText q (take n a)
-    asks-not h d = let l = length-take n a in rw (ne-eqb (length (take n a)) (numbersAsked q) λ e. d (omega arith))
+  -- (b: whether the question may have so many)
+  pub asks : (q : Question) (b : Bool) → isAsked q n ≡ b → n ≤ rowLength → cond b (askedText q (take n a)) (refusalText 14) ≡ batchText q (take n a)
+  asks q b e h =
+      ap (λ (t : Bool). cond t (askedText q (take n a)) (refusalText 14))
+      (sym e ∙ ap (isAsked q) (sym (length-take-le n a (omega arith))))
 
 -- by the first two bytes
 pub no-bytes : (l : List ℕ) → length l ≡ 0 → Malformed ≡ sessionCommand l

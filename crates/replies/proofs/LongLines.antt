@@ -1,4 +1,4 @@
--- A line longer than 239 bytes is malformed in every program, whatever it holds; so the first 240 bytes of a line are answered as the whole line is.
+-- A line longer than 259 bytes is malformed in every program, whatever it holds; so the first 260 bytes of a line are answered as the whole line is.
 use mathlib.Core.Path.{_≡_, refl, sym, ap, _∙_}
 use mathlib.Core.Bool.{Bool, true, false, cond}
 use mathlib.Core.Logic.{_⊎_, inl, inr, ⊎-elim}
@@ -12,19 +12,20 @@ use lib.ListN.{length, take, length-append}
 use lib.Seq.{take-all, length-take-le}
 use borrow.Author.Tests.{le-ltb, lt-ltb, ne-eqb, leb-true, leb-false}
 use Rattle.card.specs.declared.Card.{Card}
+use Rattle.fieldbook.specs.Shot.{optionCount}
 use Rattle.lines.specs.Numerals.{digitsOf, plus, minus, numeralOf, prefixed, words, rowLength, ifNumber, numbersBehind, numbersOf}
 use Rattle.lines.specs.declared.Digits.the-variants.{Other}
 use Rattle.lines.specs.declared.Numeral.{Numeral}
 use Rattle.lines.specs.declared.Numeral.the-variants.{Number, NoNumber}
 use Rattle.lines.proofs.Words.{first-word}
 use Rattle.replies.specs.Commands.{letterCommand, sessionCommand, longestLine}
-use Rattle.replies.specs.Answers.{refusalText, commandText, commandCard, numbersAsked, batchReply, reply, next}
+use Rattle.replies.specs.Answers.{refusalText, commandText, commandCard, numbersAsked, isAsked, batchReply, reply, next}
 use Rattle.replies.specs.declared.Command.{Command}
 use Rattle.replies.specs.declared.Command.the-variants.{Malformed}
 use Rattle.replies.specs.declared.Protocol.{Protocol}
 use Rattle.replies.specs.declared.Protocol.the-variants.{Session, Batch}
 use Rattle.replies.specs.declared.Question.{Question}
-use Rattle.replies.proofs.Grammar.{asked-some, asked-few}
+use Rattle.replies.proofs.Grammar.{asked-fields, asked-few, asked-count}
 
 same : {A : Type 0} (b : Bool) {x y z : A} → x ≡ z → y ≡ z → cond b x y ≡ z
 same true p q = p
@@ -113,13 +114,25 @@ long-session [] h = refl
 long-session (c ∷ []) h = absurd (omega arith)
 long-session (c ∷ s ∷ l) h = same (eqb s 32) (long-letter c l (omega arith)) refl
 
+-- so no question may have as many numbers as a long line has
+long-asked : (q : Question) (l : List ℕ) → longestLine < length l → isAsked q (length (numbersOf 18 l)) ≡ false
+long-asked q l h = by (isAsked q (length (numbersOf 18 l))) refl
+  where
+    too-long : (n : ℕ) → length (numbersOf 18 l) ≡ n → numbersAsked q ≤ n → n ≤ numbersAsked q + optionCount → ⊥
+    too-long n e least most =
+        let f = asked-few q in
+        let g = asked-fields q in
+        not-so-many 18 n l (omega arith) (omega arith) e
+
+    by : (b : Bool) → isAsked q (length (numbersOf 18 l)) ≡ b → isAsked q (length (numbersOf 18 l)) ≡ false
+    by true e = let c = asked-count q (length (numbersOf 18 l)) e in absurd (too-long (length (numbersOf 18 l)) refl (c .0) (c .1))
+    by false e = e
+
 long-batch : (q : Question) (l : List ℕ) → longestLine < length l → batchReply q l ≡ refusalText 14 ++ (10 ∷ [])
 unfolding batchReply
-long-batch q l h =
-    let f = asked-few q in
-    rw (ne-eqb (length (numbersOf 18 l)) (numbersAsked q) (not-so-many 18 (numbersAsked q) l (asked-some q) (omega arith)))
+long-batch q l h = rw (long-asked q l h)
 
--- what is the same for all long lines, the first 240 bytes tell
+-- what is the same for all long lines, the first 260 bytes tell
 told-by-first : {A : Type 0} (f : List ℕ → A) (a : A) → ((l : List ℕ) → longestLine < length l → f l ≡ a)
     → (l : List ℕ) → f (take (suc longestLine) l) ≡ f l
 told-by-first f a long l = by-order (length l) (suc longestLine) (λ h. ap f (take-all (suc longestLine) l h)) λ h.

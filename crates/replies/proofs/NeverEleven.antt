@@ -16,14 +16,14 @@ use Rattle.card.specs.Calls as Calls
 use Rattle.card.specs.Calls.{CardValues, accepted, hearTests, hearCard, hear, confirmTests, confirm, heldTests}
 use Rattle.card.specs.declared.Card.{Card}
 use Rattle.card.specs.declared.Field.the-variants.{Confirmed}
-use Rattle.fieldbook.specs.Shot.{refused, tests, answerOf, shot, cardNumbers, shotFromCard}
-use Rattle.fieldbook.specs.declared.Numbers.{Numbers}
+use Rattle.fieldbook.specs.Shot.{defaults, refused, tests, answerOf, shot, cardQuery, shotFromCard}
+use Rattle.fieldbook.specs.declared.Query.{Query}
 use Rattle.pointing.specs.Pointing as Mark
 use Rattle.pointing.specs.Pointing.{pointingTests, pointed, pointing}
 use Rattle.lines.specs.Numerals.{numbersOf}
 use Rattle.lines.specs.Appending.{decimalText}
 use Rattle.replies.specs.Commands.{sessionCommand}
-use Rattle.replies.specs.Answers.{refusalText, verdictText, readText, shotText, markText, commandText, numbersAsked, askedText, batchReply, reply}
+use Rattle.replies.specs.Answers.{refusalText, verdictText, readText, shotText, markText, commandText, isAsked, askedText, batchReply, reply}
 use Rattle.replies.specs.declared.Command.{Command}
 use Rattle.replies.specs.declared.Command.the-variants.{Hear, Read, Confirm, Shoot, Malformed}
 use Rattle.replies.specs.declared.Protocol.{Protocol}
@@ -79,17 +79,17 @@ module _ (c : Card) (f : ℤ) where
   read-is-not = holds-decided NotEleven (heldTests c f) (text (numberIn (fieldOf c f))) refusalText (text-is-not (numberIn (fieldOf c f))) (tell 9 refl, (tell 10 refl, tt))
 
 -- a shot and its pointing, by the shot's tests
-tests-are-not : (x : Numbers) → Each (λ k. NotEleven (refusalText k)) (tests x)
+tests-are-not : (x : Query) → Each (λ k. NotEleven (refusalText k)) (tests x)
 unfolding decimalText decimal decimalIn
-tests-are-not x = (tell 2 refl, (tell 3 refl, (tell 4 refl, (tell 17 refl, (tell 5 refl, (tell 6 refl, (tell 7 refl, (tell 8 refl, tt))))))))
+tests-are-not x = (tell 2 refl, (tell 3 refl, (tell 4 refl, (tell 17 refl, (tell 5 refl, (tell 6 refl, (tell 19 refl, (tell 7 refl, (tell 8 refl, tt)))))))))
 
-card-shot-is-not : (c : Card) → NotEleven (shotText Session (shotFromCard c))
+card-shot-is-not : (c : Card) → NotEleven (shotText Session (shotFromCard c defaults))
 unfolding shotFromCard decimalText decimal decimalIn
 card-shot-is-not c =
-    let x = cardNumbers c in
+    let x = cardQuery c defaults in
     holds-decided (λ v. NotEleven (shotText Session v)) (cardTests c ++ tests x) (answerOf x) refused (differs 0 (shotText Session (answerOf x)) refl) (tell 1 refl, tests-are-not x)
 
-module _ (x : Numbers) where
+module _ (x : Query) where
   shot-is-not : NotEleven (shotText (Batch Shot) (shot x))
   unfolding shot decimalText decimal decimalIn
   shot-is-not =
@@ -120,7 +120,7 @@ asked-is-not : (q : Question) (l : List ℤ) → NotEleven (askedText q l)
 asked-is-not Shot l = shot-is-not _
 asked-is-not Pointing l = mark-is-not _ _
 
--- (b: whether there are as many numbers as the question takes)
+-- (b: whether there are as many numbers as the question may have)
 batch-is-not : (b : Bool) (q : Question) (l : List ℤ) → NotEleven (cond b (askedText q l) (refusalText 14))
 unfolding decimalText decimal decimalIn
 batch-is-not true q l = asked-is-not q l
@@ -129,4 +129,4 @@ batch-is-not false q l = tell 14 refl
 pub never-eleven : (p : Protocol) (c : Card) (l : List ℕ) → reply p c l ≢ refusalText 11 ++ (10 ∷ [])
 unfolding reply batchReply
 never-eleven Session c l = command-is-not (sessionCommand l) c
-never-eleven (Batch q) c l = batch-is-not (eqb (length (numbersOf 18 l)) (numbersAsked q)) q (numbersOf 18 l)
+never-eleven (Batch q) c l = batch-is-not (isAsked q (length (numbersOf 18 l))) q (numbersOf 18 l)

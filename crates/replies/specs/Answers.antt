@@ -1,9 +1,9 @@
--- Document 01, "One session, whole", and document 02, request 1 (RULES.md, "Lines"): what a line is answered, and the card after it. An answer is a
+-- Document 01, "One session, whole", and document 02, requests 1 and 7 (RULES.md, "Lines"): what a line is answered, and the card after it. An answer is a
 -- line of ASCII bytes that ends in a newline.
-use mathlib.Core.Bool.{cond}
+use mathlib.Core.Bool.{Bool, cond, _&&_}
 use mathlib.Core.List.{List, [], _∷_, _++_}
-use Prim.Native.Nat.{ℕ, suc}
-use lib.Dec.{eqb}
+use Prim.Native.Nat.{ℕ, suc, _+_}
+use lib.Dec.{eqb, leb}
 use lib.IntN.{ℤ}
 use lib.ListN.{length}
 use Rattle.refusal.specs.Tests.{decided}
@@ -12,8 +12,7 @@ use Rattle.digits.specs.Text.{text}
 use Rattle.card.specs.Fields.{numberIn, fieldCount, fieldOf}
 use Rattle.card.specs.Calls.{hear, confirm, heldTests, readCard}
 use Rattle.card.specs.declared.Card.{Card}
-use Rattle.fieldbook.specs.Shot as Book
-use Rattle.fieldbook.specs.Shot.{ShotValues, shot, shotFromCard}
+use Rattle.fieldbook.specs.Shot.{ShotValues, defaults, optionCount, queryOf, shot, shotFromCard}
 use Rattle.pointing.specs.Pointing.{PointingValues, pointing}
 use Rattle.lines.specs.Numerals.{numbersOf}
 use Rattle.lines.specs.Appending.{decimalText}
@@ -74,14 +73,18 @@ abbrev pub numbersAsked : Question → ℕ
 numbersAsked Shot = fieldCount
 numbersAsked Pointing = suc fieldCount
 
--- what so many are answered
+-- options may stand behind these, in their order
+abbrev pub isAsked : Question → ℕ → Bool
+isAsked q count = leb (numbersAsked q) count && leb count (numbersAsked q + optionCount)
+
+-- what so many are answered: an option that is left out has its default
 abbrev pub askedText : Question → List ℤ → List ℕ
-askedText Shot l = shotText (Batch Shot) (shot (Book.numbersOf l))
-askedText Pointing l = markText (pointing (Book.numbersOf l) (nth l fieldCount))
+askedText Shot l = shotText (Batch Shot) (shot (queryOf l (numbersAsked Shot)))
+askedText Pointing l = markText (pointing (queryOf l (numbersAsked Pointing)) (nth l fieldCount))
 
 -- and what any are: where there are more or fewer, the line is malformed
 abbrev pub batchText : Question → List ℤ → List ℕ
-batchText q l = cond (eqb (length l) (numbersAsked q)) (askedText q l) (refusalText 14)
+batchText q l = cond (isAsked q (length l)) (askedText q l) (refusalText 14)
 
 -- ---- a command
 -- its answer, and the card afterwards
@@ -89,7 +92,7 @@ abbrev pub commandText : Command → Card → List ℕ
 commandText (Hear f n) c = verdictText (hear c f n .refusal)
 commandText (Read f) c = readText c f
 commandText (Confirm f) c = verdictText (confirm c f .refusal)
-commandText Shoot c = shotText Session (shotFromCard c)
+commandText Shoot c = shotText Session (shotFromCard c defaults)
 commandText Malformed c = refusalText 14
 
 abbrev pub commandCard : Command → Card → Card

@@ -20,7 +20,7 @@ ghost use Rattle.lines.specs.Numerals.{rowLength, listed};
 ghost use Rattle.lines.specs.Appending.{Appends};
 ghost use Rattle.replies.specs.Commands.{fieldCommand, letterCommand, sessionCommand};
 ghost use Rattle.replies.specs.Sizes.{longest};
-ghost use Rattle.replies.specs.Answers.{labelledText, pairText, refusalText, verdictText, readText, cardRead, shotText, markText, numbersAsked, batchText, commandText, commandCard, batchReply, reply, next};
+ghost use Rattle.replies.specs.Answers.{labelledText, pairText, refusalText, verdictText, readText, cardRead, shotText, markText, numbersAsked, isAsked, askedText, batchText, commandText, commandCard, batchReply, reply, next};
 ghost use Rattle.replies.specs.declared.Protocol.the-variants.{Session};
 
 // The most digits of a number in a line of the session, and of a batch.
@@ -44,6 +44,7 @@ pub enum Question {
     // A shot: a number for each field, in the order of the card.
     Shot,
     // A pointing: these, and behind them the horizontal angle, clockwise from the mark to the body in units of 0.0001 second of arc.
+    // Behind the numbers of either may stand options, in their order.
     Pointing,
 }
 
@@ -190,7 +191,7 @@ fn append_mark(out: &mut [u8], place: usize, mark: Mark) -> usize
     }
 }
 
-// How many numbers the line of a question has.
+// How many numbers the line of a question has before its options.
 fn numbers_asked(question: Question) -> usize
     ensures { λ r. ⌜ r ≡ numbersAsked question ⌝ }
 {
@@ -200,28 +201,52 @@ fn numbers_asked(question: Question) -> usize
     }
 }
 
-// Appends the answer to the numbers of a line: to the question where there are as many as it takes, else that the line is malformed.
+// Whether the line of a question may have so many numbers: those that it takes, and options behind them.
+fn is_asked(question: Question, count: usize) -> bool
+    ensures { λ r. ⌜ r ≡ isAsked question count ⌝ }
+{
+    let asked = numbers_asked(question);
+    asked <= count && count <= asked + fieldbook::OPTIONS
+}
+
+// Appends the answer to a question, which as many numbers ask as it takes, and options behind them.
+fn append_asked(
+    t: &SineTable,
+    question: Question,
+    list: &[i64],
+    out: &mut [u8],
+    place: usize,
+) -> usize
+    requires { ⌜ (place + longest ≤ length (now out)) × (now t ≡ entries) × (numbersAsked question ≤ length (now list)) ⌝ }
+    ensures { λ r. ⌜ Appends (now (out .entry)) place (askedText question (now (list .entry))) (now (out .exit)) r ⌝ }
+    ensures { λ r. ⌜ r ≤ place + longest ⌝ }
+{
+    let query = fieldbook::query_of(list, numbers_asked(question));
+    match question {
+        Question::Shot => {
+            let protocol = Protocol::Batch(Question::Shot);
+            append_shot(out, place, protocol, fieldbook::shot_with(t, query))
+        }
+        Question::Pointing => {
+            let angle = list[card::FIELDS];
+            append_mark(out, place, pointing::pointing_with(t, query, angle))
+        }
+    }
+}
+
+// Appends the answer to the numbers of a line: to the question where there are as many as it takes, with options or without, else that the
+// line is malformed.
 fn append_batch(t: &SineTable, question: Question, row: Row, out: &mut [u8], place: usize) -> usize
     requires { ⌜ (place + longest ≤ length (now out)) × (now t ≡ entries) × (row .count ≤ rowLength) ⌝ }
     ensures { λ r. ⌜ Appends (now (out .entry)) place (batchText question (listed row)) (now (out .exit)) r ⌝ }
     ensures { λ r. ⌜ r ≤ place + longest ⌝ }
 {
     let numbers = row.numbers;
-    if row.count != numbers_asked(question) {
+    let count = row.count;
+    if !is_asked(question, count) {
         return append_refusal(out, place, Refusal::Malformed);
     }
-    match question {
-        Question::Shot => {
-            let fields = fieldbook::numbers_of(&numbers[..card::FIELDS]);
-            let protocol = Protocol::Batch(Question::Shot);
-            append_shot(out, place, protocol, fieldbook::shot_with(t, fields))
-        }
-        Question::Pointing => {
-            let fields = fieldbook::numbers_of(&numbers);
-            let angle = numbers[card::FIELDS];
-            append_mark(out, place, pointing::pointing_with(t, fields, angle))
-        }
-    }
+    append_asked(t, question, &numbers[..count], out, place)
 }
 
 // Appends the verdict of a call on a card, and hands on the card.
@@ -273,7 +298,7 @@ fn command_reply(t: &SineTable, command: Command, card: Card, out: &mut [u8], pl
         Command::Read(field) => read_out(card, field, out, place),
         Command::Confirm(field) => card_reply(card::confirm(card, field), out, place),
         Command::Shoot => {
-            let r = fieldbook::shot_from_card_with(t, card);
+            let r = fieldbook::shot_from_card_with(t, card, fieldbook::DEFAULTS);
             let kept = r.card;
             let outcome = r.outcome;
             let end = append_shot(out, place, Protocol::Session, outcome);

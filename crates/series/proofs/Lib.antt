@@ -4,3 +4,5 @@ pub mod Rows
 pub mod Sizes
 pub mod SumBound
 pub mod Cosine
+pub mod Front
+pub mod Steady

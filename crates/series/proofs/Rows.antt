@@ -7,38 +7,24 @@ use Prim.Native.Nat.{ℕ, suc, _≤_, _^_}
 use native.Mathlib.Nat.{le-refl}
 use native.Mathlib.Omega.{arith}
 use lib.Dec.{eqb}
-use lib.IntN.{ℤ, pos, negsuc, natAbs, _+ℤ_, _*ℤ_}
+use lib.IntN.{ℤ, pos, natAbs, _+ℤ_, _*ℤ_}
 use lib.ListN.{length, getD}
 use borrow.Author.Tests.{eqb-true}
 use Rattle.exact.specs.Reduction.{reduced}
-use Rattle.exact.specs.Division.{floorDiv}
 use Rattle.exact.specs.Nth.{nth}
 use Rattle.exact.proofs.Differences.{split, zs}
+use Rattle.exact.proofs.Integers.{abs-zero}
 use Rattle.secular.specs.FlooredPolynomial as secular
 use Rattle.series.specs.Term.{Part, part, angleOf, value}
 use Rattle.series.specs.Notation.{none}
 use Rattle.series.specs.Rows.{parts, keep, kept, steadyTerm, steadyAngle, varyingTerm}
-
--- ---- a steady amplitude
-steady : (c q : ℤ) → c ≡ secular.value (secular.polynomial c (pos 0) (pos 0) (10 ^ 12)) q
-unfolding secular.value floorDiv
-steady c q = simp (nothing q, nothing (q *ℤ q)) (added c)
-  where
-    nothing : (x : ℤ) → pos 0 *ℤ x ≡ pos 0
-    nothing x = rw (split x) (simp zs (omega arith))
-
-    added : (x : ℤ) → x ≡ x +ℤ pos 0 +ℤ pos 0
-    added x = rw (split x) (simp zs (omega arith))
+use Rattle.series.proofs.Sums.{steady}
 
 -- ---- the parts of an angle
 module _ (arguments : List ℤ) where
   sumOf : List Part → ℤ
   sumOf [] = pos 0
   sumOf (p ∷ ps) = part arguments p +ℤ sumOf ps
-
-  no-times : (z : ℤ) → natAbs z ≡ 0 → z ≡ pos 0
-  no-times (pos n) e = ap pos e
-  no-times (negsuc n) e = absurd (omega arith)
 
   -- those that are left out come to nothing
   kept-sum : (ps : List Part) → sumOf (kept ps) ≡ sumOf ps
@@ -50,7 +36,7 @@ module _ (arguments : List ℤ) where
       zero-left z x y e = rw (e, split x, split y) (simp zs (omega arith))
 
       go : (b : Bool) → eqb (natAbs (p .times)) 0 ≡ b → sumOf (kept ps) ≡ sumOf ps → sumOf (keep b p (kept ps)) ≡ part arguments p +ℤ sumOf ps
-      go true e h = h ∙ zero-left (p .times) (getD arguments (p .index) (pos 0)) (sumOf ps) (no-times (p .times) (eqb-true _ _ e))
+      go true e h = h ∙ zero-left (p .times) (getD arguments (p .index) (pos 0)) (sumOf ps) (abs-zero (p .times) (eqb-true _ _ e))
       go false e h = ap (λ (z : ℤ). part arguments p +ℤ z) h
 
   kept-length : (ps : List Part) → length (kept ps) ≤ length ps

@@ -2,12 +2,12 @@
 -- nearest.
 use mathlib.Core.List.{List, [], _∷_}
 use Prim.Native.Nat.{ℕ, _+_, _*_}
-use lib.IntN.{ℤ, pos, _+ℤ_, _*ℤ_}
+use lib.IntN.{ℤ, pos, natAbs, _+ℤ_, _*ℤ_}
 use Rattle.exact.specs.Division.{nearestDiv}
 use Rattle.sine_table.specs.SinePolynomial.{polyDen}
 use Rattle.sine_table.specs.Table.{R}
 use Rattle.sine.specs.Sine.{Sin, polyAt}
-use Rattle.series.specs.Term.{Term, value, weight}
+use Rattle.series.specs.Term.{Term, amplitudeOf, value, weight}
 
 -- the exact sum, with a function f for the sine
 unfoldable pub total : (ℕ → ℤ) → List ℤ → ℤ → List Term → ℤ
@@ -26,7 +26,12 @@ scaledP a = pos R *ℤ polyAt a
 unfoldable pub polynomialSum : List ℤ → ℤ → List Term → ℤ
 polynomialSum arguments q terms = nearestDiv (total scaledP arguments q terms) (R * polyDen)
 
--- the most that the amplitudes' magnitudes can add up to
+-- the sum of the amplitudes at q, each without its sign
+unfoldable pub amplitudes : List Term → ℤ → ℕ
+amplitudes [] q = 0
+amplitudes (t ∷ ts) q = natAbs (amplitudeOf t q) + amplitudes ts q
+
+-- the most that this can be at an accepted instant, by a simple estimate
 unfoldable pub weights : List Term → ℕ
 weights [] = 0
 weights (t ∷ ts) = weight t + weights ts

@@ -1,3 +1,4 @@
-pub mod FarthestKnown
+pub mod Editions
+pub mod EditionBound
+pub mod LargestSum
 pub mod LongitudeBound
-mod WorkedLongitude

@@ -1,3 +1,5 @@
 pub mod Series
+pub mod Editions
+pub mod Tolerance
 pub mod Longitude
 pub mod Direction

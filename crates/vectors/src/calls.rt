@@ -31,21 +31,21 @@ pub fn undo(card: Card) -> Card {
     answered(card::undo(card))
 }
 
-// The shot from the card.
+// The shot from the card, with the default options.
 pub fn shot(t: &SineTable, card: Card) -> Card
     requires { ⌜ now t ≡ entries ⌝ }
 {
-    let answer = fieldbook::shot_from_card_with(t, card);
+    let answer = fieldbook::shot_from_card_with(t, card, fieldbook::DEFAULTS);
     let outcome = answer.outcome;
     output::shot(outcome);
     ended(answer.card)
 }
 
-// The pointing from the card, with a horizontal angle.
+// The pointing from the card, with a horizontal angle and the default options.
 pub fn pointing(t: &SineTable, card: Card, angle: i64) -> Card
     requires { ⌜ now t ≡ entries ⌝ }
 {
-    let answer = pointing::pointing_from_card_with(t, card, angle);
+    let answer = pointing::pointing_from_card_with(t, card, fieldbook::DEFAULTS, angle);
     let mark = answer.mark;
     output::mark(mark);
     ended(answer.card)

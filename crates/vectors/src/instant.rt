@@ -1,5 +1,5 @@
-// What is asked of an instant, fields 1 to 7 and 11 of the card: its time, the Sun's numbers, or with fields 8 to 10 every step of a shot. Angles
-// are in units of 0.0001″.
+// What is asked of an instant, fields 1 to 7 and 11 of the card, by an edition of the Sun's series: its time, the Sun's numbers, or with fields 8
+// to 10 every step of a shot. Angles are in units of 0.0001″.
 use crate::angles;
 use crate::output;
 use crate::words::Word;
@@ -7,6 +7,7 @@ use calendar::Epochs;
 use calendar::Instant;
 use epoch::Epoch;
 use fieldbook::Numbers;
+use fieldbook::Options;
 use frame::Frame;
 use polaris::Elements;
 use refusal::Refusal;
@@ -23,7 +24,7 @@ ghost use Rattle.sine_table.specs.Table.{entries};
 ghost use Rattle.rotation.specs.Length.{squaredLength, growth};
 ghost use Rattle.rotation.specs.Sizes.{reach};
 ghost use Rattle.epoch.specs.Sizes.{InSpan};
-ghost use Rattle.arguments.specs.Sizes.{IsArguments};
+ghost use Rattle.arguments.specs.PrintedArguments.{argumentsOf};
 ghost use Rattle.frame.specs.FrameContract.{IsFrame};
 ghost use Rattle.polaris.specs.Sizes.{ElementsSized};
 ghost use Rattle.site.specs.Sizes.{PositionSized};
@@ -50,10 +51,11 @@ pub fn date(year: i64, month: i64, day: i64) {
 }
 
 // The shot with plain numbers.
-pub fn shot(t: &SineTable, fields: &[i64])
+pub fn shot(t: &SineTable, fields: &[i64], edition: i64)
     requires { ⌜ (now t ≡ entries) × (fieldCount ≤ length (now fields)) ⌝ }
 {
-    output::shot(fieldbook::shot_with(t, fieldbook::numbers_of(fields)));
+    let query = fieldbook::query_with(fields, Options { edition: edition });
+    output::shot(fieldbook::shot_with(t, query));
 }
 
 // The fields of an instant alone, whose line has the numbers of fields 1 to 7 and 11: no site, and no body.
@@ -62,17 +64,17 @@ pub fn fields_of(n: [i64; lines::ROW]) -> [i64; card::FIELDS] {
 }
 
 // Answers what is asked with the numbers of the fields.
-pub fn at(t: &SineTable, asked: Word, fields: &[i64])
+pub fn at(t: &SineTable, asked: Word, fields: &[i64], edition: i64)
     requires { ⌜ (now t ≡ entries) × (fieldCount ≤ length (now fields)) ⌝ }
 {
     let numbers = fieldbook::numbers_of(fields);
     match calendar::instant_of(numbers.time) {
-        Instant::Accepted(epochs) => answer_at(t, asked, quantities_of(t, epochs), numbers),
+        Instant::Accepted(epochs) => answer_at(t, asked, epochs, numbers, edition),
         Instant::Refused(refusal) => output::refused(refusal),
     }
 }
 
-fn quantities_of(t: &SineTable, epochs: Epochs) -> Quantities
+fn quantities_of(t: &SineTable, epochs: Epochs, edition: i64) -> Quantities
     requires { ⌜ (now t ≡ entries) × (InSpan (epochs .universal) × InSpan (epochs .ephemeris)) ⌝ }
     ensures { λ r. ⌜ QuantitiesSized r ⌝ }
 {
@@ -84,45 +86,61 @@ fn quantities_of(t: &SineTable, epochs: Epochs) -> Quantities
         frame: f,
         sidereal: frame::sidereal_time(t, epochs.universal, f.dpsi, f.epsilon),
         centre: sun::centre_longitude(t, &arguments, e),
-        longitude: longitude_of(t, &arguments, e, f),
+        longitude: longitude_of(t, edition, &arguments, e, f),
     }
 }
 
-fn longitude_of(t: &SineTable, arguments: &[i64], e: Epoch, f: Frame) -> u64
-    requires { ⌜ (now t ≡ entries) × IsArguments (now arguments) × InSpan e × IsFrame (now arguments) (e .q) f ⌝ }
+fn longitude_of(
+    t: &SineTable,
+    edition: i64,
+    arguments: &[i64; arguments::COUNT],
+    e: Epoch,
+    f: Frame,
+) -> u64
+    requires { ⌜ (now t ≡ entries) × (now arguments ≡ argumentsOf e) × InSpan e × IsFrame (now arguments) (e .q) f ⌝ }
     ensures { λ r. ⌜ r < turn ⌝ }
 {
-    sun::apparent_longitude(t, arguments, e, f.dpsi, sun::ABERRATION)
+    sun::apparent_longitude(t, edition, arguments, e, f.dpsi, sun::ABERRATION)
 }
 
-fn answer_at(t: &SineTable, asked: Word, quantities: Quantities, numbers: Numbers)
-    requires { ⌜ (now t ≡ entries) × QuantitiesSized quantities ⌝ }
+fn answer_at(t: &SineTable, asked: Word, epochs: Epochs, numbers: Numbers, edition: i64)
+    requires { ⌜ (now t ≡ entries) × (InSpan (epochs .universal) × InSpan (epochs .ephemeris)) ⌝ }
 {
     match asked {
         Word::Instant => {
             output::accepted();
-            write_time(quantities.epochs);
+            write_time(epochs);
         }
-        Word::Longitude => {
-            output::accepted();
-            output::natural(quantities.longitude);
-        }
+        Word::Longitude => write_longitude(t, epochs, edition),
         Word::Sun => {
             output::accepted();
-            write_sun(t, quantities);
+            write_sun(t, quantities_of(t, epochs, edition));
         }
-        _ => parts(t, quantities, numbers.site, numbers.body),
+        _ => parts(t, epochs, numbers.site, numbers.body, edition),
     }
 }
 
-// N and its q, then N with ΔT, its q and the arguments.
+// s, where the edition is one.
+fn write_longitude(t: &SineTable, epochs: Epochs, edition: i64)
+    requires { ⌜ (now t ≡ entries) × (InSpan (epochs .universal) × InSpan (epochs .ephemeris)) ⌝ }
+{
+    if !exact::between(1, edition, 2) {
+        return output::refused(Refusal::NoEdition);
+    }
+    let quantities = quantities_of(t, epochs, edition);
+    output::accepted();
+    output::natural(quantities.longitude);
+}
+
+// N and its q, then N with ΔT, its q and the arguments, those of the full edition last.
 fn write_time(epochs: Epochs)
     requires { ⌜ InSpan (epochs .ephemeris) ⌝ }
 {
     let u = epochs.universal;
     let e = epochs.ephemeris;
     output::integers(&[u.n, u.q, e.n, e.q]);
-    output::integers(&arguments::arguments_of(e));
+    let arguments = arguments::arguments_of(e);
+    output::integers(&arguments::full_arguments_of(&arguments, e));
 }
 
 // What almanacs print of the Sun: s, Δψ, Δε, the true obliquity, sidereal time, right ascension and declination.
@@ -165,8 +183,8 @@ fn write_short_way(a: u64)
 }
 
 // Every step of a shot, in the order of tools/vectors.py.
-fn parts(t: &SineTable, quantities: Quantities, site: Site, body: i64)
-    requires { ⌜ (now t ≡ entries) × QuantitiesSized quantities ⌝ }
+fn parts(t: &SineTable, epochs: Epochs, site: Site, body: i64, edition: i64)
+    requires { ⌜ (now t ≡ entries) × (InSpan (epochs .universal) × InSpan (epochs .ephemeris)) ⌝ }
 {
     let located = angles::located(site);
     if !located.known {
@@ -175,6 +193,10 @@ fn parts(t: &SineTable, quantities: Quantities, site: Site, body: i64)
     if !exact::between(1, body, 2) {
         return output::refused(Refusal::NoBody);
     }
+    if !exact::between(1, edition, 2) {
+        return output::refused(Refusal::NoEdition);
+    }
+    let quantities = quantities_of(t, epochs, edition);
     parts_from(t, quantities, located.position, body == 1);
 }
 

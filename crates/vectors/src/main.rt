@@ -78,15 +78,18 @@ fn answer(t: &SineTable, card: Card, line: &[u8]) -> Card
 fn answer_numbers(t: &SineTable, word: Word, n: [i64; lines::ROW])
     requires { ⌜ now t ≡ entries ⌝ }
 {
+    let edition = n[card::FIELDS];
     match word {
         Word::Sine => angles::sines(t, n[0]),
         Word::Angle => angles::of_vector(t, n[0], n[1]),
         Word::Direction => angles::of_direction(t, n[0], n[1], n[2], n[3], n[4], n[5]),
         Word::Date => instant::date(n[0], n[1], n[2]),
-        Word::Shot => instant::shot(t, &n),
-        Word::Parts => instant::at(t, word, &n),
+        Word::Shot => instant::shot(t, &n, fieldbook::DEFAULTS.edition),
+        Word::ShotByEdition => instant::shot(t, &n, edition),
+        Word::Parts => instant::at(t, word, &n, edition),
+        Word::Longitude => instant::at(t, word, &instant::fields_of(n), n[8]),
         Word::Other => output::malformed(),
         // The others ask of an instant alone.
-        _ => instant::at(t, word, &instant::fields_of(n)),
+        _ => instant::at(t, word, &instant::fields_of(n), fieldbook::DEFAULTS.edition),
     }
 }

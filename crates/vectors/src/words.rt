@@ -3,7 +3,7 @@ ghost use Prim.Native.Nat.{_/_, _<_, _≤_};
 ghost use lib.ListN.{length};
 
 // What a line asks by its first word, where it has as many numbers as the word takes: of the card, of angles, or of the card's fields from the
-// first on.
+// first on, perhaps with an edition of the Sun's series behind them.
 pub enum Word {
     Fresh,
     Old,
@@ -22,6 +22,7 @@ pub enum Word {
     Sun,
     Parts,
     Shot,
+    ShotByEdition,
     Choice,
     Other,
 }
@@ -84,17 +85,20 @@ fn fields_word(word: &[u8], count: usize) -> Word {
     if asks(word, count, b"instant", 8) {
         return Word::Instant;
     }
-    if asks(word, count, b"longitude", 8) {
+    if asks(word, count, b"longitude", 9) {
         return Word::Longitude;
     }
     if asks(word, count, b"sun", 8) {
         return Word::Sun;
     }
-    if asks(word, count, b"parts", 11) {
+    if asks(word, count, b"parts", 12) {
         return Word::Parts;
     }
     if asks(word, count, b"shot", 11) {
         return Word::Shot;
+    }
+    if asks(word, count, b"shot", 12) {
+        return Word::ShotByEdition;
     }
     Word::Other
 }

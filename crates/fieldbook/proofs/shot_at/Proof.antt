@@ -34,14 +34,14 @@ returns c =
     let l = p .before .before in
     let a = l .before .args in
     let e = simp (toZ-ofZ, l .before .fits .body) at (c .shot-from .ensures .0) in
-    (e ∙ accepted-site (a .epochs) (a .site) (a .body) (p .position .given .0 .0) (answer-by l _ (p .position .given .1)), c .shot-from .ensures .1)
+    (e ∙ accepted-site (a .epochs) (a .site) (a .body) (a .options) (p .position .given .0 .0) (answer-by l _ (p .position .given .1)), c .shot-from .ensures .1)
 
 returns-2 : tie.Need-returns-2
 returns-2 c =
     let r = c .before .refusal .given in
     let l = c .before .before .before in
     let a = l .before .args in
-    (refused-site (a .epochs) (a .site) (a .body) (r .0 .0) (answer-by l _ (r .1)), refused-reduced 0)
+    (refused-site (a .epochs) (a .site) (a .body) (a .options) (r .0 .0) (answer-by l _ (r .1)), refused-reduced 0)
 
 pub shot-at-spec : {M : Type 1} → statement M
 shot-at-spec = tie.close (tie.spec position-of-requires enum-known-position shot-from-requires enum-known-refusal returns returns-2)

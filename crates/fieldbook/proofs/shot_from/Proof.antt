@@ -1,90 +1,69 @@
--- The body's test, and the shot of the body that is asked for.
-use mathlib.Core.Path.{_≡_, refl, sym, ap, _∙_}
-use mathlib.Core.Bool.{true, false, decide, decide-iff}
-use lib.IntN.{ℤ, pos, ℤ-discrete}
-use mir.Syntax.{w64}
+-- The tests of the body and of the edition, and then the shot.
+use mathlib.Core.Path.{_≡_, sym, _∙_}
+use mathlib.Core.Bool.{true}
+use native.Mathlib.Omega.{arith}
+use lib.IntN.{ℤ}
 use mir.Facts.{toZ-ofZ}
-use mir.Val.{toZ, ofZ}
+use mir.Syntax.{w64}
+use mir.Val.{SFits}
 use borrow.Author.Needs.{needs}
 use borrow.Author.Tests.{not-true, not-false}
 use Rattle.calendar.specs.declared.Epochs.{Epochs}
+use Rattle.sun.specs.Editions.{isEdition}
 use Rattle.site.specs.declared.Position.{Position}
-use Rattle.fieldbook.specs.Shot.{ShotValues, ShotReduced, isBody, bodyView, longitudeOf}
-use Rattle.fieldbook.specs.Parts.{sightedShot, sunShot, polarisShot, shotFrom}
+use Rattle.fieldbook.specs.Shot.{isBody}
+use Rattle.fieldbook.specs.Parts.{shotOf, shotFrom}
+use Rattle.fieldbook.specs.declared.Options.{Options}
 use Rattle.fieldbook.proofs.Decided.{refused-reduced}
 use Rattle.fieldbook.proofs.shot_from.Statement.{statement}
 use Rattle.fieldbook.proofs.shot_from.Tie as tie
 
-not-decided : {P : Type 0} (d : Dec P) → (P → ⊥) → decide d ≡ false
-unfolding decide
-not-decided (yes p) n = absurd (n p)
-not-decided (no _) n = refl
+passed : (es : Epochs) (p : Position) (body : ℤ) (o : Options) → isBody body ≡ true → isEdition (o .edition) ≡ true → shotOf es p body o ≡ shotFrom es p body o
+unfolding shotOf shotFrom
+passed es p body o e f = simp (e, f)
 
--- the body that is asked for
-module _ (es : Epochs) (p : Position) (body : ℤ) where
-  asked : ShotValues
-  asked = sightedShot (bodyView es p body) (longitudeOf (es .ephemeris) body)
-
-  is-sun : body ≡ pos 1 → sunShot es p ≡ asked
-  unfolding asked sunShot bodyView
-  is-sun e = rw (decide-iff (ℤ-discrete body (pos 1)) .1 e)
-
-  is-polaris : (body ≡ pos 1 → ⊥) → polarisShot es p ≡ asked
-  unfolding asked polarisShot bodyView
-  is-polaris n = rw (not-decided (ℤ-discrete body (pos 1)) n)
-
-  passed : isBody body ≡ true → asked ≡ shotFrom es p body
-  unfolding asked shotFrom
-  passed e = simp e
-
-tested : (c : tie.After-between) → isBody (c .before .args .body) ≡ c .between .result
-tested c = sym (simp (toZ-ofZ, c .before .fits .body) at (c .between .ensures))
-
--- either body's shot, of the epochs that the astrometry keeps
-module _ (c : tie.After-astrometry-of) where
-  abbrev start : tie.Start
-  start = c .before .before .before
-
-  abbrev found : ShotValues
-  found = asked (start .args .epochs) (start .args .position) (start .args .body)
-
-  body-shot : (part : Epochs → Position → ShotValues) (v : ShotValues) → part (start .args .epochs) (start .args .position) ≡ found
-      → (v ≡ part (c .astrometry-of .result .epochs) (start .args .position)) × ShotReduced v
-      → (v ≡ shotFrom (start .args .epochs) (start .args .position) (start .args .body)) × ShotReduced v
-  body-shot part v e h =
-      let a = start .args in
-      let same = ap (λ (es : Epochs). part es (a .position)) (c .astrometry-of .ensures .0) in
-      (h .0 ∙ same ∙ e ∙ passed (a .epochs) (a .position) (a .body) (tested (c .before .before) ∙ not-false _ (c .before .if1 .left)), h .1)
+is-body : (c : tie.After-between) → isBody (c .before .args .body) ≡ c .between .result
+is-body c = sym (simp (toZ-ofZ, c .before .fits .body) at (c .between .ensures))
 
 between-requires : tie.Need-between-requires
 between-requires c κs = search needs
 
 returns : tie.Need-returns
 unfolding shotFrom
-returns c = let e = tested (c .before) ∙ not-true _ (c .if1 .taken) in (simp e, refused-reduced 6)
+returns c = let e = is-body (c .before) ∙ not-true _ (c .if1 .taken) in (simp e, refused-reduced 6)
 
-astrometry-of-requires : tie.Need-astrometry-of-requires
-astrometry-of-requires c κs = search needs
+between-requires-2 : tie.Need-between-requires-2
+between-requires-2 c κs = search needs
 
-sun-shot-requires : tie.Need-sun-shot-requires
-sun-shot-requires c κs = search needs
+edition-fits : (c : tie.After-struct-told) → SFits w64 (c .before .before .before .args .options .edition)
+edition-fits c = record { sfits = omega arith }
 
-polaris-shot-requires : tie.Need-polaris-shot-requires
-polaris-shot-requires c κs = search needs
+-- behind the body's test
+module _ (c : tie.After-between2) where
+  abbrev first : tie.After-between
+  first = c .before .before .before
+
+  body-known : isBody (first .before .args .body) ≡ true
+  body-known = is-body first ∙ not-false _ (c .before .before .if1 .left)
+
+  is-edition : isEdition (first .before .args .options .edition) ≡ c .between2 .result
+  is-edition = sym (simp (toZ-ofZ, edition-fits (c .before)) at (c .between2 .ensures))
 
 returns-2 : tie.Need-returns-2
-returns-2 c =
-    let k = c .before .before in
-    let a = start k .args in
-    let one = sym (toZ-ofZ (start k .fits .body)) ∙ ap (toZ w64) (c .before .if2 .taken) in
-    body-shot k sunShot _ (is-sun (a .epochs) (a .position) (a .body) one) (c .sun-shot .ensures)
+unfolding shotFrom
+returns-2 c = let b = c .before in let e = is-edition b ∙ not-true _ (c .if2 .taken) in (simp (body-known b, e), refused-reduced 19)
+
+shot-of-requires : tie.Need-shot-of-requires
+shot-of-requires c κs = search needs
 
 returns-3 : tie.Need-returns-3
 returns-3 c =
-    let k = c .before .before in
-    let a = start k .args in
-    body-shot k polarisShot _ (is-polaris (a .epochs) (a .position) (a .body) (λ e. c .before .if2 .left (ap (ofZ w64) e))) (c .polaris-shot .ensures)
+    let b = c .before .before in
+    let s = first b .before in
+    let a = s .args in
+    let e = is-edition b ∙ not-false _ (c .before .if2 .left) in
+    let f = simp (toZ-ofZ, s .fits .body) at (c .shot-of .ensures .0) in
+    (f ∙ passed (a .epochs) (a .position) (a .body) (a .options) (body-known b) e, c .shot-of .ensures .1)
 
 pub shot-from-spec : {M : Type 1} → statement M
-shot-from-spec = tie.close
-    (tie.spec between-requires returns astrometry-of-requires sun-shot-requires polaris-shot-requires returns-2 returns-3)
+shot-from-spec = tie.close (tie.spec between-requires returns between-requires-2 returns-2 shot-of-requires returns-3)

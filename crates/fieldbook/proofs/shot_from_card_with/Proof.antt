@@ -12,11 +12,11 @@ use Rattle.fieldbook.proofs.shot_from_card_with.Tie as tie
 confirmed-numbers-requires : tie.Need-confirmed-numbers-requires
 confirmed-numbers-requires c κs = search needs
 
-slice-aggregate-numbers-of : tie.Need-slice-aggregate-numbers-of
-slice-aggregate-numbers-of c = search needs
+slice-aggregate-query-with : tie.Need-slice-aggregate-query-with
+slice-aggregate-query-with c = search needs
 
-numbers-of-requires : tie.Need-numbers-of-requires
-numbers-of-requires c κs = omega (arith, slice-aggregate-numbers-of c)
+query-with-requires : tie.Need-query-with-requires
+query-with-requires c κs = omega (arith, slice-aggregate-query-with c)
 
 enum-told : tie.Need-enum-told
 enum-told c = search needs
@@ -38,10 +38,11 @@ returns c =
     let s = c .before in
     let n = s .before .before .before in
     let f = n .before .before .before in
+    let p = f .before .args .options in
     let v : verdictNumber (f .confirmed-numbers .result .verdict) ≡ 0 = ap verdictNumber (s .before .enum-told .given .1) in
     let e = ap (λ k. record { refusal = k; numbers = f .confirmed-numbers .result .numbers }) (sym v) ∙ f .confirmed-numbers .ensures in
     let o = c .with-card .ensures in
-    rw (o .0) (s .shot-with .ensures .0 ∙ ap shot (n .numbers-of .ensures) ∙ confirmed-card (f .before .args .card) _ e, o .1, s .shot-with .ensures .1)
+    rw (o .0) (s .shot-with .ensures .0 ∙ ap shot (n .query-with .ensures) ∙ confirmed-card (f .before .args .card) p _ e, o .1, s .shot-with .ensures .1)
 
 returns-2 : tie.Need-returns-2
 returns-2 c =
@@ -49,9 +50,9 @@ returns-2 c =
     let f = v .before .before .before .before .before in
     let e = sym (ap verdictNumber (v .verdict .given .1)) ∙ ap (λ (a : ConfirmedValues). a .refusal) (f .confirmed-numbers .ensures) in
     let o = c .with-card2 .ensures in
-    rw (o .0) (refused-card (f .before .args .card) (v .verdict .given .0 .0) e, o .1, refused-reduced 1)
+    rw (o .0) (refused-card (f .before .args .card) (f .before .args .options) (v .verdict .given .0 .0) e, o .1, refused-reduced 1)
 
 pub shot-from-card-with-spec : {M : Type 1} → statement M
 shot-from-card-with-spec = tie.close
-    (tie.spec confirmed-numbers-requires slice-aggregate-numbers-of numbers-of-requires enum-told shot-with-requires with-card-requires enum-known-verdict with-card-requires-2
+    (tie.spec confirmed-numbers-requires slice-aggregate-query-with query-with-requires enum-told shot-with-requires with-card-requires enum-known-verdict with-card-requires-2
     returns returns-2)

@@ -24,8 +24,9 @@ returns c =
     let t = c .before in
     let f = t .before .before in
     let ws = f .before .args .words .now in
-    subst (λ (v : ShotValues). (v ≡ cardShot ws) × ShotReduced v) (sym (c .refused .ensures))
-    (without ws (f .from-words .result) (f .from-words .ensures) shotFromCard refused (not-true _ (t .if1 .taken)), reduced)
+    let o = f .before .args .options in
+    subst (λ (v : ShotValues). (v ≡ cardShot ws o) × ShotReduced v) (sym (c .refused .ensures))
+    (without ws (f .from-words .result) (f .from-words .ensures) (λ c. shotFromCard c o) refused (not-true _ (t .if1 .taken)), reduced)
 
 shot-from-card-requires : tie.Need-shot-from-card-requires
 shot-from-card-requires c κs = search needs
@@ -39,9 +40,10 @@ returns-2 c =
     let e = s .before .before in
     let f = e .before .before in
     let ws = f .before .args .words .now in
+    let o = f .before .args .options in
     let is = s .shot-from-card .ensures in
-    subst (λ (v : ShotValues). (v ≡ cardShot ws) × ShotReduced v) (sym (c .answer-of .ensures))
-    (is .0 ∙ with ws (f .from-words .result) (f .from-words .ensures) shotFromCard refused (not-false _ (e .if1 .left)), is .2)
+    subst (λ (v : ShotValues). (v ≡ cardShot ws o) × ShotReduced v) (sym (c .answer-of .ensures))
+    (is .0 ∙ with ws (f .from-words .result) (f .from-words .ensures) (λ c. shotFromCard c o) refused (not-false _ (e .if1 .left)), is .2)
 
 pub fieldbook-card-shot-spec : {M : Type 1} → statement M
 fieldbook-card-shot-spec = tie.close

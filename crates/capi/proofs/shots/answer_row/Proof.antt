@@ -7,8 +7,8 @@ use Rattle.capi.specs.Rows.{wordCount, shotWords}
 use Rattle.capi.proofs.shots.answer_row.Statement.{statement}
 use Rattle.capi.proofs.shots.answer_row.Tie as tie
 
-numbers-of-requires : tie.Need-numbers-of-requires
-numbers-of-requires c κs = search needs
+query-with-requires : tie.Need-query-with-requires
+query-with-requires c κs = search needs
 
 shot-with-requires : tie.Need-shot-with-requires
 shot-with-requires c κs = search needs
@@ -27,9 +27,9 @@ returns c =
     let p = c .before .before in
     let a = p .before in
     let s = a .before in
-    let n = s .before in
-    let values = a .answer-of .ensures ∙ s .shot-with .ensures .0 ∙ ap shot (n .numbers-of .ensures) in
-    p .put .ensures ∙ ap (λ (v : ShotValues). shotWords v ++ drop wordCount (n .before .before .before .args .answers .now)) values
+    let n = s .before .before in
+    let values = a .answer-of .ensures ∙ s .shot-with .ensures .0 ∙ ap shot (n .query-with .ensures) in
+    p .put .ensures ∙ ap (λ (v : ShotValues). shotWords v ++ drop wordCount (n .before .before .args .answers .now)) values
 
 pub answer-row-spec : {M : Type 1} → statement M
-answer-row-spec = tie.close (tie.spec numbers-of-requires shot-with-requires answer-of-requires put-requires same-length returns)
+answer-row-spec = tie.close (tie.spec query-with-requires shot-with-requires answer-of-requires put-requires same-length returns)

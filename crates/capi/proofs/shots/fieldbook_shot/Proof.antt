@@ -2,30 +2,32 @@
 use mathlib.Core.Path.{_≡_, sym, subst}
 use mir.Facts.{toZ-ofZ}
 use borrow.Author.Needs.{needs}
-use Rattle.fieldbook.specs.Shot.{ShotValues, shotValues, ShotReduced, shot}
-use Rattle.fieldbook.specs.declared.Numbers.{Numbers}
+use Rattle.fieldbook.specs.Shot.{ShotValues, query, shotValues, ShotReduced, shot}
+use Rattle.fieldbook.specs.declared.Query.{Query}
 use Rattle.capi.specs.Interface.{numbers}
 use Rattle.capi.proofs.shots.fieldbook_shot.Statement.{statement}
 use Rattle.capi.proofs.shots.fieldbook_shot.Tie as tie
 
 module _ (c : tie.After-shot) where
-  abbrev x : Numbers
+  abbrev x : Query
   x =
       let a = c .before .before .before .args in
-      numbers (a .year) (a .month) (a .day) (a .hour) (a .minute) (a .millisecond) (a .dut1) (a .latitude) (a .longitude) (a .body) (a .delta-t)
+      query
+      (numbers (a .year) (a .month) (a .day) (a .hour) (a .minute) (a .millisecond) (a .dut1) (a .latitude) (a .longitude) (a .body) (a .delta-t))
+      (a .options)
 
   is-shot : (shotValues (c .shot .result) ≡ shot x) × ShotReduced (shotValues (c .shot .result))
   is-shot =
       let f = c .before .before .before .fits in
-      let n = c .before .numbers-of .ensures in
+      let n = c .before .query-with .ensures in
       let is = c .shot .ensures in
       simp (n, toZ-ofZ, f .year, f .month, f .day, f .hour, f .minute, f .millisecond, f .dut1, f .latitude, f .longitude, f .body, f .delta-t) at is
 
-slice-aggregate-numbers-of : tie.Need-slice-aggregate-numbers-of
-slice-aggregate-numbers-of c = search needs
+slice-aggregate-query-with : tie.Need-slice-aggregate-query-with
+slice-aggregate-query-with c = search needs
 
-numbers-of-requires : tie.Need-numbers-of-requires
-numbers-of-requires c κs = search needs
+query-with-requires : tie.Need-query-with-requires
+query-with-requires c κs = search needs
 
 shot-requires : tie.Need-shot-requires
 shot-requires c κs = search needs
@@ -39,4 +41,4 @@ returns c =
     subst (λ (v : ShotValues). (v ≡ shot (x d)) × ShotReduced v) (sym (c .answer-of .ensures)) (is-shot d)
 
 pub fieldbook-shot-spec : {M : Type 1} → statement M
-fieldbook-shot-spec = tie.close (tie.spec slice-aggregate-numbers-of numbers-of-requires shot-requires answer-of-requires returns)
+fieldbook-shot-spec = tie.close (tie.spec slice-aggregate-query-with query-with-requires shot-requires answer-of-requires returns)

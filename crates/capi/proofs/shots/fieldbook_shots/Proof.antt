@@ -8,21 +8,22 @@ use lib.ListN.{length, drop, length-drop, length-take}
 use borrow.Author.Needs.{needs}
 use Rattle.sine_table.specs.Table.{entries}
 use Rattle.card.specs.Fields.{fieldCount}
+use Rattle.fieldbook.specs.declared.Options.{Options}
 use Rattle.capi.specs.Rows.{wordCount, rowCount, answersTo}
 use Rattle.capi.proofs.ManyShots as many
 use Rattle.capi.proofs.shots.fieldbook_shots.Statement.{statement}
 use Rattle.capi.proofs.shots.fieldbook_shots.Tie as tie
 
-record Answered (rows : List ℤ) (before answers : List ℕ) (count i : ℕ) : Type 0 where
+record Answered (o : Options) (rows : List ℤ) (before answers : List ℕ) (count i : ℕ) : Type 0 where
   all : count ≡ rowCount rows before
   some : i ≤ count
-  so-far : answers ≡ answersTo i rows ++ drop (wordCount * i) before
+  so-far : answers ≡ answersTo o i rows ++ drop (wordCount * i) before
 
 abbrev Inv-loop : tie.InvT-loop
-Inv-loop rows answers₀ t count i₀ answers i = (t ≡ entries) × Answered rows answers₀ answers count i
+Inv-loop rows answers₀ options t count i₀ answers i = (t ≡ entries) × Answered options rows answers₀ answers count i
 
 abbrev μ-loop : tie.MeasureT-loop
-μ-loop rows answers₀ t count i₀ answers i = count - i
+μ-loop rows answers₀ options t count i₀ answers i = count - i
 
 table-requires : tie.Need-table-requires Inv-loop μ-loop
 table-requires c κs = search needs
@@ -48,6 +49,9 @@ module _ (c : tie.After-t Inv-loop μ-loop) where
   abbrev before : List ℕ
   before = loop .before .before .before .before .before .args .answers .now
 
+  abbrev options : Options
+  options = loop .before .before .before .before .before .args .options
+
   inside-rows : fieldCount * i + fieldCount ≤ length rows
   inside-rows = omega (arith, loop .loop .inv .1 .all, many.within rows before .0)
 
@@ -55,7 +59,7 @@ module _ (c : tie.After-t Inv-loop μ-loop) where
   inside = omega (arith, loop .loop .inv .1 .all, many.within rows before .1)
 
   same : length (loop .loop .answers) ≡ length before
-  same = many.same-length rows before i (loop .loop .answers) (omega (arith, inside)) (loop .loop .inv .1 .so-far)
+  same = many.same-length options rows before i (loop .loop .answers) (omega (arith, inside)) (loop .loop .inv .1 .so-far)
 
 mul-answer-row : tie.Need-mul-answer-row Inv-loop μ-loop
 mul-answer-row c = omega (arith, inside-rows c)
@@ -106,7 +110,7 @@ loop-again c =
       record {
         all = l .inv .1 .all;
         some = omega arith;
-        so-far = many.one-more (rows t) (before t) (i t) (l .answers) _ (inside t) (l .inv .1 .so-far) (c .before .before .answer-row .ensures);
+        so-far = many.one-more (options t) (rows t) (before t) (i t) (l .answers) _ (inside t) (l .inv .1 .so-far) (c .before .before .answer-row .ensures);
       },
     )
 
@@ -115,7 +119,7 @@ same-length c =
     let a = c .before .before .before .before .before .before .args in
     let l = c .before .loop in
     let s = l .inv .1 in
-    many.same-length (a .rows .now) (a .answers .now) (l .i) (l .answers)
+    many.same-length (a .options) (a .rows .now) (a .answers .now) (l .i) (l .answers)
     (omega (arith, s .all, s .some, many.within (a .rows .now) (a .answers .now) .1)) (s .so-far)
 
 returns : tie.Need-returns Inv-loop μ-loop
@@ -124,7 +128,7 @@ returns c =
     let l = c .before .loop in
     let s = l .inv .1 in
     let done : l .i ≡ c .before .before .row-count .result = omega (arith, s .some) in
-    (s .all, s .so-far ∙ ap (λ (k : ℕ). answersTo k (a .rows .now) ++ drop (wordCount * k) (a .answers .now)) done)
+    (s .all, s .so-far ∙ ap (λ (k : ℕ). answersTo (a .options) k (a .rows .now) ++ drop (wordCount * k) (a .answers .now)) done)
 
 pub fieldbook-shots-spec : {M : Type 1} → statement M
 fieldbook-shots-spec = tie.close

@@ -14,15 +14,12 @@ instant-of-requires c κs = search needs
 enum-known-epochs : tie.Need-enum-known-epochs
 enum-known-epochs c = search needs
 
-quantities-of-requires : tie.Need-quantities-of-requires
-quantities-of-requires c κs =
+answer-at-requires : tie.Need-answer-at-requires
+answer-at-requires c κs =
     let e = c .before .epochs .given in
     let found = c .before .before .before in
     let r = subst InstantSized (e .1) (found .instant-of .ensures .1) in
     (found .before .before .pre .0, (r .0, r .1))
-
-answer-at-requires : tie.Need-answer-at-requires
-answer-at-requires c κs = search needs
 
 enum-known-refusal : tie.Need-enum-known-refusal
 enum-known-refusal c = search needs
@@ -39,5 +36,5 @@ returns-2 c = search needs
 pub at-spec : {M : Type 1} → statement M
 at-spec =
     tie.close
-    (tie.spec numbers-of-requires instant-of-requires enum-known-epochs quantities-of-requires answer-at-requires enum-known-refusal refused-requires returns
+    (tie.spec numbers-of-requires instant-of-requires enum-known-epochs answer-at-requires enum-known-refusal refused-requires returns
     returns-2)

@@ -1,0 +1,2 @@
+pub mod FarthestKnown
+mod WorkedLongitude
