@@ -2,16 +2,15 @@
 # start-up does not count. Prints five numbers: the whole program's; those of the function `shot` with all that it calls; and of
 # these the angles', the sums' and the arguments'. `-` stands for what is not found.
 #
-# usage: awk -v shots=N -v shot=SYMBOL -v lists=N -v rows=N -f parts.awk FEW MANY
-#        lists: how many series a shot sums; rows: how many arguments it has
+# usage: awk -v shots=N -v shot=SYMBOL -v lists=N -f parts.awk FEW MANY
+#        lists: how many series a shot sums
 #
 # How each is found, and when not:
 #   angles      calls of vector_angle::angle, three a shot. Another number of calls means that the compiler inlined some: not found
 #   sums        calls of the sums of `series` from outside that crate, one for each list, else not found. What is inlined into a sum
 #               counts with it, the sines above all
-#   arguments   their loop is inlined into `shot`: the instructions of that function which run exactly once for each row. Not found
-#               where the loop is unrolled or stands in a function of its own; too many where another loop of `shot` runs as often;
-#               what stands before the loop or runs for some rows only is left out
+#   arguments   calls of arguments::arguments_of, one a shot; not found where it is inlined. The full edition's four more stand
+#               elsewhere
 
 function enter(part, number, cost) {
     calls[part] += number
@@ -35,14 +34,7 @@ FNR == 1 { sign = NR == 1 ? -1 : 1 }
     if (callee == shot) enter("shot", number, cost)
     if (callee == "vector_angle::angle") enter("angles", number, cost)
     if (callee ~ /^series::.*sum$/ && caller !~ /^series::/) enter("sums", number, cost)
-    next
+    if (callee == "arguments::arguments_of") enter("arguments", number, cost)
 }
 
-# ADDRESS LINE COST: an instruction costs one each time it runs.
-/^0x/ && caller == shot { runs[$1] += sign * $3 }
-
-END {
-    for (address in runs)
-        if (runs[address] == rows * shots) loop += runs[address]
-    printf "%.0f %s %s %s %s\n", all / shots, found("shot", 1), found("angles", 3), found("sums", lists), loop ? loop / shots : "-"
-}
+END { printf "%.0f %s %s %s %s\n", all / shots, found("shot", 1), found("angles", 3), found("sums", lists), found("arguments", 1) }

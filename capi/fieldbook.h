@@ -3,7 +3,8 @@
    card, whose words the caller keeps; they take any numbers, and may be called by several threads at once. Of
    the caller's memory they touch what is lent to them and no more. The choice reads its two lists, many shots
    read one list and write to the other, the card's calls read and write its words, a reading writes to a buffer
-   besides, and the shot from a card only reads; the single shot and the pointing are lent nothing.
+   besides, and the shot from a card only reads; the single shot, the pointing and the editions are lent
+   nothing.
 
    Header and library belong together. The linker compares neither how many numbers a function takes nor how
    many members its options have, and code compiled with the header of another version would hand over some of
@@ -200,6 +201,36 @@ struct fieldbook_choice_answer {
        set_out_all(narrower, a.count); */
 struct fieldbook_choice_answer fieldbook_choice(const int64_t *first, size_t first_count,
                                                 const int64_t *second, size_t second_count);
+
+/* The answer of both editions, its angles in units of 0.0001 second of arc. Check the refusal first: a refused
+   instant has no angles, and what stands for them is 0. */
+struct fieldbook_editions_answer {
+    uint64_t refusal;       /* 2, 3, 4 or 17 of enum fieldbook_refusal, 0 where the instant is answered */
+    uint64_t short_edition; /* the Sun's apparent longitude s by the short edition, 0 to 12,959,999,999 */
+    uint64_t full_edition;  /* the same by the full one */
+    uint64_t apart;         /* how far the two are apart, the short way round */
+    uint64_t bound;         /* the amplitudes that the short edition leaves out at this instant, added up
+                               without their signs: apart is never more, which is proved */
+};
+
+/* The editions: what leaving terms out of a series costs, for those who teach it. It works the Sun's apparent
+   longitude s at an instant by the short edition and by the full one, and tells how far apart they are and how
+   far apart they can be at most. Its numbers are the shot's without position and body, year to dut1 and then
+   delta_t, with the same limits; it takes no options. A call has about as many instructions as a single shot of
+   the Sun.
+
+   The bound is what the terms left out come to where all stand at their largest, on one side: 227,570 for the
+   24 terms that the full edition adds, and 122 to 240, growing with the date, for the amplitude that changes
+   with it. It is never more than 227,810, which is 22.781 seconds of arc. No instant is known at which they meet
+   like that: the most that was found from 1976 to 2049 is 157,299, 15.7 seconds, on 22 March 2020.
+
+       struct fieldbook_editions_answer a = fieldbook_editions(2020, 3, 22, 6, 30, 0, 0, 69184);
+       if (a.refusal != FIELDBOOK_ANSWERED)
+           return a.refusal;
+       show(a.apart, a.bound); */
+struct fieldbook_editions_answer fieldbook_editions(int64_t year, int64_t month, int64_t day, int64_t hour,
+                                                    int64_t minute, int64_t millisecond, int64_t dut1,
+                                                    int64_t delta_t);
 
 /* The card: the eleven numbers of a shot, each heard, read out and confirmed before the shot takes it. It is 25
    words, which the caller keeps and lends; a copy of them is another card.

@@ -45,7 +45,7 @@ static int read_pointing(int64_t n[12])
 /* Works the next set: prints each azimuth, and then an empty line. */
 static struct set work_set(struct fieldbook_options options)
 {
-    struct set set = {.count = 0};
+    struct set set = {{0}, 0};
     int64_t n[12];
     while (read_pointing(n)) {
         struct fieldbook_pointing_answer a =

@@ -1,7 +1,7 @@
 //! Compares the book's static library, called as it is and through the safe wrapper, with the
-//! second program on random shots, one by one and many in a call, pointings, choices and calls on
-//! cards, the shots with random options, and with the outside vectors. Fails where they differ or an
-//! outcome is reached fewer than `LEAST` times.
+//! second program on random shots, one by one and many in a call, pointings, instants by both
+//! editions of the Sun's series, choices and calls on cards, the shots with random options, and with
+//! the outside vectors. Fails where they differ or an outcome is reached fewer than `LEAST` times.
 //!
 //! usage: compare SEED COUNT
 
@@ -9,10 +9,10 @@
 #[path = "../../capi/rust/src/ffi.rs"]
 mod ffi;
 
-use fieldbook::{Card, Numbers, Refusal, ShotAngles};
+use fieldbook::{Card, Instant, Numbers, Refusal, ShotAngles};
 use second::call::Call;
 use second::card::Field;
-use second::compare::{compare_asked, compare_library, compare_vectors, Way};
+use second::compare::{compare_asked, compare_library, compare_longitudes, compare_vectors, Way};
 use second::counts::LEAST;
 use second::lent_cards::{
     compare_card_vectors, compare_lent_cards, compare_own_cards, outcomes_of_lent_cards,
@@ -20,7 +20,7 @@ use second::lent_cards::{
 };
 use second::many_shots::{compare_many_shots, ManyShots};
 use second::options::Options;
-use second::question::{Choice, LibraryAnswer, Pointing, Question, Shot};
+use second::question::{Choice, Editions, LibraryAnswer, Pointing, Question, Shot};
 use second::sine::Sine;
 use std::error::Error;
 use std::ptr;
@@ -91,6 +91,20 @@ fn wrapped_pointing(pointing: &Pointing) -> LibraryAnswer<Pointing> {
     match fieldbook::pointing(&Numbers::from(pointing.fields), pointing.angle, options) {
         Ok(mark) => (0, [mark]),
         Err(refusal) => (refusal as u64, Pointing::REFUSED),
+    }
+}
+
+/// Both editions of the static library.
+fn editions(editions: &Editions) -> LibraryAnswer<Editions> {
+    let a = ffi::editions(editions.fields);
+    (a.refusal, [a.short_edition, a.full_edition, a.apart, a.bound])
+}
+
+/// Both editions through the wrapper.
+fn wrapped_editions(editions: &Editions) -> LibraryAnswer<Editions> {
+    match fieldbook::editions(&Instant::from(editions.fields)) {
+        Ok(a) => (0, [a.short, a.full, a.apart, a.bound]),
+        Err(refusal) => (refusal as u64, Editions::REFUSED),
     }
 }
 
@@ -176,26 +190,46 @@ enum Vectors {
     Older(&'static str),
 }
 
+/// Compares one kind of question on random ones.
+fn random_agree<Q: Question>(
+    name: &str,
+    (seed, count): (u64, u64),
+    ways: &[Way<Q>],
+) -> Result<(), String> {
+    let counts = compare_library(&Sine::new(), (seed, count), ways)?;
+    counts.all_reached(&Q::outcomes(), LEAST)?;
+    println!("{count} {name} of the static library agree: {counts}");
+    Ok(())
+}
+
 /// Compares one kind of question on random ones and on the outside vectors.
 fn agrees<Q: Question>(
     name: &str,
-    (seed, count): (u64, u64),
+    run: (u64, u64),
     vectors: Vectors,
     library: fn(&Q) -> LibraryAnswer<Q>,
     wrapper: fn(&Q) -> LibraryAnswer<Q>,
 ) -> Result<(), String> {
-    let sine = Sine::new();
     let ways: [Way<Q>; 2] = [("the static library", &library), ("its wrapper", &wrapper)];
-    let counts = compare_library(&sine, (seed, count), &ways)?;
-    counts.all_reached(&Q::outcomes(), LEAST)?;
-    println!("{count} {name} of the static library agree: {counts}");
+    random_agree(name, run, &ways)?;
     let (lines, answers) = match vectors {
         Vectors::Current(file) => (compare_vectors(file, &ways)?, "agree"),
         Vectors::Older(file) => {
-            (compare_asked(&sine, file, &ways)?, "agree with the second program")
+            (compare_asked(&Sine::new(), file, &ways)?, "agree with the second program")
         }
     };
     println!("{lines} {name} of the outside vectors {answers}, through the static library");
+    Ok(())
+}
+
+/// Compares both editions on random instants, and on the longitudes of the outside vectors.
+fn editions_agree(run: (u64, u64)) -> Result<(), String> {
+    let ways: [Way<Editions>; 2] =
+        [("the static library", &editions), ("its wrapper", &wrapped_editions)];
+    random_agree("instants by both editions", run, &ways)?;
+    let vectors = include_str!("../../second/tests/data/longitude.txt");
+    let lines = compare_longitudes(vectors, &ways)?;
+    println!("{lines} longitudes of the outside vectors agree, through the static library");
     Ok(())
 }
 
@@ -242,6 +276,7 @@ fn main() -> Result<(), Box<dyn Error>> {
     many_shots_agree(run)?;
     let vectors = Vectors::Older(include_str!("../../second/tests/data/pointing.txt"));
     agrees("pointings", run, vectors, pointing, wrapped_pointing)?;
+    editions_agree(run)?;
     let vectors = Vectors::Current(include_str!("../../second/tests/data/choice.txt"));
     agrees("choices", run, vectors, choice, wrapped_choice)?;
     cards_agree(run)?;

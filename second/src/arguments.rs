@@ -43,7 +43,7 @@ pub enum Argument {
 use Argument::*;
 
 /// How many arguments there are.
-const COUNT: usize = 15;
+pub const COUNT: usize = 15;
 
 /// All arguments in their order.
 pub const ALL: [Argument; COUNT] = [

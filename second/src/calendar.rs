@@ -7,7 +7,7 @@ use crate::refusal::Refusal;
 /// C, a Julian century of 36,525 days, in milliseconds.
 pub const CENTURY: i64 = 3_155_760_000_000;
 /// A day in milliseconds.
-const DAY: i64 = 86_400_000;
+pub const DAY: i64 = 86_400_000;
 /// Half a day in milliseconds: the epoch is 1900 January 0.5.
 pub const HALF_DAY: i64 = 43_200_000;
 /// The largest ΔT, which is ET - UT1, in milliseconds; the smallest is 0.

@@ -4,8 +4,9 @@
 use crate::card::Card;
 use crate::counts::{answered_or, Counts, Outcome};
 use crate::lines::joined;
-use crate::options::Options;
-use crate::question::{answer_text, asked_by_vector, BatchQuestion, LibraryAnswer, Question};
+use crate::question::{
+    answer_text, asked_by_vector, BatchQuestion, Editions, LibraryAnswer, Question,
+};
 use crate::random::Random;
 use crate::random_lines::Lines;
 use crate::replay::{batch_line, card_line, refused};
@@ -36,7 +37,7 @@ pub fn random_batch<Q: BatchQuestion>(sine: &Sine, seed: u64, count: u64) -> Vec
 /// their defaults; rarely too few or too many.
 fn batch_numbers<Q: BatchQuestion>(random: &mut Random, question: &Q) -> Vec<i64> {
     let mut numbers = question.numbers();
-    for default in Options::default().numbers().into_iter().rev() {
+    for default in Q::defaults().into_iter().rev() {
         if numbers.pop_if(|last| *last == default && random.once_in(2)).is_none() {
             break;
         }
@@ -172,7 +173,7 @@ pub fn compare_library<Q: Question>(
 /// Compares a library, asked in each of some ways, with vectors, lines `numbers = answer`, and
 /// returns how many there are; the error tells the first that is answered otherwise.
 pub fn compare_vectors<Q: Question>(file: &str, ways: &[Way<Q>]) -> Result<usize, String> {
-    each_vector::<Q>(file, |question, expected| all_answer(ways, &question, expected))
+    each_vector(file, |given, expected| all_answer(ways, &question_of(given)?, expected))
 }
 
 /// The same with this program's answers to the vectors' questions, where these are older than the
@@ -182,24 +183,52 @@ pub fn compare_asked<Q: Question>(
     file: &str,
     ways: &[Way<Q>],
 ) -> Result<usize, String> {
-    each_vector::<Q>(file, |question, _| {
+    each_vector(file, |given, _| {
+        let question: Q = question_of(given)?;
         let answer = Q::as_library(question.answer(sine));
         all_answer(ways, &question, &answer_text(&answer))
     })
 }
 
-/// Takes each question of vectors with its answer, and returns how many there are.
-fn each_vector<Q: Question>(
+/// Compares both editions by a library with vectors of longitudes, lines `instant edition = s ..`:
+/// the longitude by that edition is s, and the two are no farther apart than their bound.
+pub fn compare_longitudes(file: &str, ways: &[Way<Editions>]) -> Result<usize, String> {
+    each_vector(file, |given, expected| {
+        let (instant, edition) = given.rsplit_once(' ').unwrap_or_default();
+        let question = question_of(instant)?;
+        for (name, ask) in ways {
+            let (refusal, values) = ask(&question);
+            let [short, full, apart, bound] = values;
+            let s = match edition {
+                "1" => short,
+                "2" => full,
+                _ => return Err(format!("{given}: no such edition")),
+            };
+            let is_equal = expected.split(' ').next() == Some(s.to_string().as_str());
+            if refusal != 0 || !is_equal || apart > bound {
+                let answer = answer_text(&(refusal, values));
+                return Err(format!("{name}, {given}: s of {expected} expected, {answer} given"));
+            }
+        }
+        Ok(())
+    })
+}
+
+/// The question of a vector's left side.
+fn question_of<Q: Question>(given: &str) -> Result<Q, String> {
+    asked_by_vector(given.as_bytes()).map_err(|_| format!("{given}: malformed"))
+}
+
+/// Takes the two sides of each of the vectors, and returns how many there are.
+fn each_vector(
     file: &str,
-    mut take: impl FnMut(Q, &str) -> Result<(), String>,
+    mut take: impl FnMut(&str, &str) -> Result<(), String>,
 ) -> Result<usize, String> {
     let mut taken = 0;
     for line in file.lines().filter(|line| !line.starts_with('#')) {
         let (given, expected) =
             line.split_once(" = ").ok_or_else(|| format!("{line}: no answer"))?;
-        let question =
-            asked_by_vector::<Q>(given.as_bytes()).map_err(|_| format!("{line}: malformed"))?;
-        take(question, expected)?;
+        take(given, expected)?;
         taken += 1;
     }
     Ok(taken)

@@ -10,7 +10,7 @@ pub const LEAST: u64 = 100;
 /// What an answer counts as.
 #[derive(Clone, Copy, Debug, PartialEq, Eq, PartialOrd, Ord)]
 pub enum Outcome {
-    /// A shot or a pointing with its angles.
+    /// A shot, a pointing or both editions with their angles.
     Answered,
     /// A choice of the first list, whose spread is smaller.
     First,
@@ -27,13 +27,13 @@ pub enum Outcome {
 }
 
 impl Outcome {
-    /// The outcome of a line of the output of `shots`, `pointings` or `session`.
+    /// The outcome of a line of the output of `shots`, `pointings`, `editions` or `session`.
     pub fn of_line(line: &str) -> Self {
         let number = line.strip_prefix("no ").and_then(|text| text.parse().ok());
-        match number {
-            Some(number) => Outcome::Refused(number),
-            None if line.starts_with("az ") || line.starts_with("mark ") => Outcome::Answered,
-            None => Outcome::Other,
+        match (number, first_word(line)) {
+            (Some(number), _) => Outcome::Refused(number),
+            (None, "az" | "mark" | "short") => Outcome::Answered,
+            (None, _) => Outcome::Other,
         }
     }
 
@@ -87,7 +87,7 @@ impl FromIterator<Outcome> for Counts {
 }
 
 impl Counts {
-    /// The counts of an output of `shots`, `pointings` or `session`.
+    /// The counts of an output of `shots`, `pointings`, `editions` or `session`.
     pub fn of_lines(output: &[u8]) -> Self {
         String::from_utf8_lossy(output).lines().map(Outcome::of_line).collect()
     }

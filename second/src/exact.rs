@@ -49,6 +49,12 @@ pub fn is_reduced(angle: i64) -> bool {
     (0..TURN).contains(&angle)
 }
 
+/// How far two reduced angles are apart, the short way round.
+pub fn short_way(a: i64, b: i64) -> i64 {
+    let difference = (a - b).abs();
+    difference.min(TURN - difference)
+}
+
 /// The square root, rounded down.
 #[inline]
 pub fn square_root(value: u64) -> u64 {
@@ -74,5 +80,15 @@ mod tests {
         assert_eq!(nearest(-1, 2), 0);
         assert_eq!(nearest(-3, 2), -1);
         assert_eq!(nearest(-5, 3), -2);
+    }
+
+    #[test]
+    fn short_way_goes_over_north_or_not() {
+        assert_eq!(short_way(5, 2), 3);
+        assert_eq!(short_way(1, TURN - 2), 3);
+        assert_eq!(short_way(TURN - 2, 1), 3);
+        assert_eq!(short_way(0, TURN / 2), TURN / 2);
+        assert_eq!(short_way(TURN / 2 + 1, 0), TURN / 2 - 1);
+        assert_eq!(short_way(7, 7), 0);
     }
 }

@@ -80,11 +80,16 @@ pub struct Accepted {
     pub edition: Edition,
 }
 
+/// Fields 1 to 7 and 11, the numbers of a shot's instant.
+pub fn instant_fields(fields: &Fields) -> [i64; 8] {
+    let [year, month, day, hour, minute, millisecond, dut1, .., delta_t] = *fields;
+    [year, month, day, hour, minute, millisecond, dut1, delta_t]
+}
+
 /// What the shot is worked by, or the first of the refusals 2, 3, 4, 17, 5, 6 and 19 that applies.
 pub fn check(fields: &Fields, options: Options) -> Result<Accepted, Refusal> {
-    let [year, month, day, hour, minute, millisecond, dut1, latitude, longitude, body, delta_t] =
-        *fields;
-    let instant = instant(&[year, month, day, hour, minute, millisecond, dut1, delta_t])?;
+    let instant = instant(&instant_fields(fields))?;
+    let [.., latitude, longitude, body, _] = *fields;
     let latitudes = -LARGEST_LATITUDE..=LARGEST_LATITUDE;
     let longitudes = 1 - LARGEST_LONGITUDE..=LARGEST_LONGITUDE;
     if !latitudes.contains(&latitude) || !longitudes.contains(&longitude) {

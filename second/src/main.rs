@@ -11,7 +11,7 @@ use second::counts::{Counts, Outcome, LEAST};
 use second::extremes::extremes;
 use second::lines::joined;
 use second::polynomial::Polynomial;
-use second::question::{BatchQuestion, Choice, Pointing, Shot};
+use second::question::{BatchQuestion, Choice, Editions, Pointing, Shot};
 use second::random_calls::{random_calls, Start};
 use second::refusal::Refusal;
 use second::replay;
@@ -27,6 +27,7 @@ const USAGE: &str = "\
 usage: second COMMAND, from standard input to standard output, a line for a line
   shots                       eleven numbers [E] -> az A zd Z ha H s S, or no N
   pointings                   eleven numbers, the horizontal angle [E] -> mark M, or no N
+  editions                    fields 1 to 7 and 11 -> short S full F apart D bound B, or no N
   session                     document 01's session
   parts                       eleven numbers [E] -> every step by name
   longitude                   fields 1 to 7 and 11 [E] -> s, polynomial longitude, bound
@@ -34,11 +35,12 @@ usage: second COMMAND, from standard input to standard output, a line for a line
   angle                       x y -> angle(x, y)
   choice                      two lists -> refusal, which list, its length
   card                        fresh, old, hear, read, confirm, undo, shot, pointing -> result, card
-  count-refusals              answers of the first three -> how often each was given
+  count-refusals              answers of the first four -> how often each was given
 E is the edition of the Sun's series, 1 where it is left out
 without input:
   random-shots SEED COUNT     lines of shots
   random-pointings SEED COUNT lines of pointings
+  random-editions SEED COUNT  lines of editions
   random-lines SEED COUNT     the lines of a session, good and damaged
   random-calls START SEED COUNT   calls on cards, each from a START, fresh or old
   sine-extremes               how far Sin is from R * P, Sin^2 + Cos^2 from R^2 (a minute)
@@ -46,6 +48,7 @@ without input:
   bench COUNT [sun|polaris]   nanoseconds per shot, of both bodies or one
   compare-shots SEED COUNT PROGRAM...     PROGRAM's answers to random-shots with these
   compare-pointings SEED COUNT PROGRAM... the same for random-pointings
+  compare-editions SEED COUNT PROGRAM...  the same for random-editions
   compare-session SEED COUNT PROGRAM...   the same for sessions of random-lines, COUNT in all
   compare-calls START SEED COUNT PROGRAM...   the same for runs of random-calls, COUNT in all";
 
@@ -70,8 +73,15 @@ fn dispatch(words: &[&str]) -> Done {
     let mut card = Card::fresh();
     let polynomial = Polynomial::new();
     match *words {
-        ["shots"] => each_line(|line| replay::batch_line::<Shot>(&sine, line)),
-        ["pointings"] => each_line(|line| replay::batch_line::<Pointing>(&sine, line)),
+        ["shots"] | ["random-shots", _, _] | ["compare-shots", _, _, _, ..] => {
+            batch::<Shot>(&sine, words)
+        }
+        ["pointings"] | ["random-pointings", _, _] | ["compare-pointings", _, _, _, ..] => {
+            batch::<Pointing>(&sine, words)
+        }
+        ["editions"] | ["random-editions", _, _] | ["compare-editions", _, _, _, ..] => {
+            batch::<Editions>(&sine, words)
+        }
         ["session"] => Ok(session::run(&sine, io::stdin().lock(), buffered_output())?),
         ["parts"] => each_vector(|line| replay::parts_line(&sine, line)),
         ["longitude"] => {
@@ -84,12 +94,6 @@ fn dispatch(words: &[&str]) -> Done {
         ["card"] => each_vector(|line| replay::card_line(&sine, &mut card, line)),
         ["count-refusals"] => count_refusals(),
         ["sine-extremes"] => print_extremes(&sine, &polynomial),
-        ["random-shots", seed, count] => {
-            print(&random_batch::<Shot>(&sine, seed.parse()?, count.parse()?))
-        }
-        ["random-pointings", seed, count] => {
-            print(&random_batch::<Pointing>(&sine, seed.parse()?, count.parse()?))
-        }
         ["random-lines", seed, count] => print(&random_lines(&sine, seed.parse()?, count.parse()?)),
         ["random-calls", start, seed, count] => {
             print(&random_calls(&sine, start.parse()?, seed.parse()?, count.parse()?))
@@ -98,12 +102,6 @@ fn dispatch(words: &[&str]) -> Done {
         ["bench", count] => bench(&sine, count.parse()?, 1..=2),
         ["bench", count, "sun"] => bench(&sine, count.parse()?, 1..=1),
         ["bench", count, "polaris"] => bench(&sine, count.parse()?, 2..=2),
-        ["compare-shots", seed, count, ref program @ ..] => {
-            compare_batch::<Shot>(&sine, seed.parse()?, count.parse()?, program)
-        }
-        ["compare-pointings", seed, count, ref program @ ..] => {
-            compare_batch::<Pointing>(&sine, seed.parse()?, count.parse()?, program)
-        }
         ["compare-session", seed, count, ref program @ ..] => {
             compare_sessions(&sine, &random_sessions(seed.parse()?, count.parse()?), program)
         }
@@ -112,6 +110,18 @@ fn dispatch(words: &[&str]) -> Done {
             compare_calls(&sine, start.parse()?, &runs, program)
         }
         _ => Err(USAGE.into()),
+    }
+}
+
+/// A command of a batch program's questions: answers their lines, prints random ones, or compares
+/// another program's answers to these.
+fn batch<Q: BatchQuestion>(sine: &Sine, words: &[&str]) -> Done {
+    match *words {
+        [_, seed, count] => print(&random_batch::<Q>(sine, seed.parse()?, count.parse()?)),
+        [_, seed, count, ref program @ ..] => {
+            compare_batch::<Q>(sine, seed.parse()?, count.parse()?, program)
+        }
+        _ => each_line(|line| replay::batch_line::<Q>(sine, line)),
     }
 }
 

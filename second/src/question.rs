@@ -8,7 +8,9 @@ use crate::options::Options;
 use crate::pointing::pointing;
 use crate::random::{pointing_numbers, shot_numbers, Random};
 use crate::random_choices::lists;
+use crate::random_instants::instant_numbers;
 use crate::refusal::Refusal;
+use crate::short_series::cost;
 use crate::sine::Sine;
 use crate::spread::{choose, spread};
 
@@ -60,6 +62,11 @@ pub trait Question: Sized {
 pub trait BatchQuestion: Question {
     /// The word in front of each value of the program's answer.
     const NAMES: &'static [&'static str];
+
+    /// The defaults of these options, which a line may leave out.
+    fn defaults() -> Vec<i64> {
+        Options::default().numbers()
+    }
 }
 
 /// A library's answer: the refusal's number, 0 for none, and the values.
@@ -155,6 +162,46 @@ impl Question for Pointing {
 
 impl BatchQuestion for Pointing {
     const NAMES: &'static [&'static str] = &["mark"];
+}
+
+/// Both editions of the Sun's series at the instant of fields 1 to 7 and 11.
+#[derive(Clone, Copy, Debug)]
+pub struct Editions {
+    pub fields: [i64; 8],
+}
+
+impl Question for Editions {
+    type Values = [u64; 4];
+    const REFUSED: [u64; 4] = [0; 4];
+
+    fn outcomes() -> Vec<Outcome> {
+        answered_or([2, 3, 4, 17])
+    }
+
+    fn random(random: &mut Random, sine: &Sine) -> Self {
+        Editions { fields: instant_numbers(random, sine) }
+    }
+
+    fn from_numbers(numbers: &[i64]) -> Result<Self, Refusal> {
+        Ok(Editions { fields: numbers.try_into().map_err(|_| Refusal::MalformedLine)? })
+    }
+
+    fn numbers(&self) -> Vec<i64> {
+        self.fields.to_vec()
+    }
+
+    fn answer(&self, sine: &Sine) -> Result<[u64; 4], Refusal> {
+        cost(sine, &self.fields).map(|cost| cost.words())
+    }
+}
+
+impl BatchQuestion for Editions {
+    const NAMES: &'static [&'static str] = &["short", "full", "apart", "bound"];
+
+    /// It has no options.
+    fn defaults() -> Vec<i64> {
+        vec![]
+    }
 }
 
 /// A choice between two lists of results.

@@ -194,7 +194,7 @@ pub fn accepted(random: &mut Random) -> Fields {
 }
 
 /// Uniform, but one to three fields, fields 7 to 11 most often, at an edge.
-fn edges(random: &mut Random) -> Fields {
+pub fn edges(random: &mut Random) -> Fields {
     let mut fields = accepted(random);
     for _ in 0..random.between(1, 3) {
         let first = random.choose(&[0, 6]);
@@ -216,7 +216,7 @@ pub fn edge_number(random: &mut Random, place: usize) -> i64 {
 
 /// ΔT at an edge, most often with one of fields 6 to 10 at one too: refusal 17 stands
 /// between 4 and 5 in the order of tests.
-fn delta_t_edges(random: &mut Random) -> Fields {
+pub fn delta_t_edges(random: &mut Random) -> Fields {
     let mut fields = accepted(random);
     for place in [10, random.between(5, 10) as usize] {
         fields[place] = edge_number(random, place);
@@ -225,7 +225,7 @@ fn delta_t_edges(random: &mut Random) -> Fields {
 }
 
 /// Dates around the calendar's rules, or any day of 0 .. 32.
-fn dates(random: &mut Random) -> Fields {
+pub fn dates(random: &mut Random) -> Fields {
     let mut fields = accepted(random);
     if random.once_in(2) {
         fields[..3].copy_from_slice(&random.choose(&EDGE_DATES));
@@ -238,7 +238,7 @@ fn dates(random: &mut Random) -> Fields {
 }
 
 /// The last minute of a day, most often one that may have a leap second.
-fn leap_seconds(random: &mut Random) -> Fields {
+pub fn leap_seconds(random: &mut Random) -> Fields {
     let mut fields = accepted(random);
     let days = [[6, 30], [12, 31], [6, 29], [12, 30], [7, 31], [1, 1]];
     let latest = if random.once_in(4) { 5 } else { 1 };
@@ -263,7 +263,7 @@ fn polar(random: &mut Random) -> Fields {
 }
 
 /// Eleven numbers, some from the ends of the types or of any size.
-fn any_numbers(random: &mut Random) -> Fields {
+pub fn any_numbers(random: &mut Random) -> Fields {
     let mut fields = accepted(random);
     for field in &mut fields {
         match random.between(0, 5) {

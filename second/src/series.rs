@@ -22,7 +22,7 @@ pub enum Amplitude {
 impl Amplitude {
     /// The amplitude at q.
     #[inline(always)]
-    fn at(self, q: i64) -> i64 {
+    pub fn at(self, q: i64) -> i64 {
         match self {
             Amplitude::Fixed(c0) => c0,
             Amplitude::Varying(c0, c1, c2) => {
@@ -49,6 +49,17 @@ pub enum Function {
     Cosine,
 }
 
+impl Function {
+    /// What is added to an angle whose sine is taken, in units: Cos(a) = Sin(a + Q).
+    #[inline(always)]
+    pub fn phase(self) -> i64 {
+        match self {
+            Function::Sine => 0,
+            Function::Cosine => QUADRANT,
+        }
+    }
+}
+
 /// A list of terms over the same arguments and with the same function.
 #[derive(Debug)]
 pub struct List {
@@ -57,16 +68,15 @@ pub struct List {
     pub terms: &'static [Term],
 }
 
-/// Gives each term of the lists to `take`, as its amplitude and the angle whose sine it
-/// needs: Cos(a) = Sin(a + Q).
+/// Gives each term of the lists to `take`, as its amplitude and the angle whose sine it needs.
 #[inline(always)]
 fn each_term(lists: &[&List], arguments: &Arguments, q: i64, mut take: impl FnMut(i64, i64)) {
     for list in lists {
         let angles = list.arguments.map(|which| arguments.get(which));
-        let shift = if list.function == Function::Cosine { QUADRANT } else { 0 };
+        let phase = list.function.phase();
         for term in list.terms {
             let products = term.multiples.iter().zip(angles);
-            let angle = products.fold(term.constant + shift, |sum, (k, angle)| sum + k * angle);
+            let angle = products.fold(term.constant + phase, |sum, (k, angle)| sum + k * angle);
             take(term.amplitude.at(q), angle);
         }
     }

@@ -4,7 +4,7 @@
 use second::arguments::{Arguments, ALL};
 use second::bound::LongitudeBounds;
 use second::edition::Edition;
-use second::exact::{QUADRANT, TURN};
+use second::exact::{short_way, QUADRANT};
 use second::fieldbook::check;
 use second::frame::frame;
 use second::options::Options;
@@ -43,8 +43,7 @@ fn longitude_within_its_bound_of_the_polynomial() {
         for edition in [Edition::Short, Edition::Full] {
             let s = sun(&sine, edition, &arguments, q, &frame).apparent_longitude;
             let exact = polynomial_longitude(&polynomial, edition, &arguments, q);
-            let difference = (s - exact).abs();
-            let within = difference.min(TURN - difference) <= bounds.of(edition);
+            let within = short_way(s, exact) <= bounds.of(edition);
             assert!(within, "{edition:?}, {fields:?}");
         }
     }

@@ -1,12 +1,15 @@
 //! The comparison itself: it reaches every refusal, agrees with this program and finds
 //! another that differs.
 
+mod changed_library;
+
+use changed_library::{changed, COUNT};
 use second::call::Call;
 use second::card::{Card, Field, WORDS};
 use second::compare::{
-    batch_answers, call_answers, compare_library, compare_vectors, equal_outputs,
-    outcomes_of_a_batch, outcomes_of_calls, outcomes_of_sessions, random_batch, random_lines,
-    random_runs, random_sessions, Way,
+    batch_answers, call_answers, compare_vectors, equal_outputs, outcomes_of_a_batch,
+    outcomes_of_calls, outcomes_of_sessions, random_batch, random_lines, random_runs,
+    random_sessions, Way,
 };
 use second::counts::{Counts, Outcome, LEAST};
 use second::digits::LONGEST;
@@ -16,28 +19,15 @@ use second::lent_cards::{
 };
 use second::many_shots::compare_many_shots;
 use second::options::Options;
-use second::question::{BatchQuestion, Choice, LibraryAnswer, Pointing, Question, Shot};
+use second::question::{BatchQuestion, Choice, Editions, Pointing, Question, Shot};
 use second::random_calls::{random_calls, Start};
 use second::replay::card_line;
 use second::session;
 use second::sine::Sine;
 use std::cell::Cell;
 
-const COUNT: u64 = 20_000;
 /// For what is rare in a history of calls.
 const CARDS: u64 = 200_000;
-
-/// The comparison of this program with a library that answers as it does but for one change.
-fn changed<Q: Question>(change: impl Fn(&Q, &mut LibraryAnswer<Q>)) -> Result<Counts, String> {
-    let sine = Sine::new();
-    let right = |question: &Q| Q::as_library(question.answer(&sine));
-    let wrong = |question: &Q| {
-        let mut answer = right(question);
-        change(question, &mut answer);
-        answer
-    };
-    compare_library(&sine, (1, COUNT), &[("right", &right), ("wrong", &wrong)])
-}
 
 /// A library that answers as this program does agrees, and every outcome is reached.
 fn reaches_every_outcome<Q: Question>() {
@@ -50,6 +40,7 @@ fn reaches_every_outcome<Q: Question>() {
 fn libraries_reach_every_outcome() {
     reaches_every_outcome::<Shot>();
     reaches_every_outcome::<Pointing>();
+    reaches_every_outcome::<Editions>();
     reaches_every_outcome::<Choice>();
 }
 
@@ -236,6 +227,7 @@ fn batch_reaches_every_outcome<Q: BatchQuestion>() {
 fn batches_reach_every_outcome() {
     batch_reaches_every_outcome::<Shot>();
     batch_reaches_every_outcome::<Pointing>();
+    batch_reaches_every_outcome::<Editions>();
 }
 
 /// Of the answered lines many lack the first edition, many name it and many the second; other lines
@@ -648,9 +640,10 @@ fn an_outcome_reached_too_rarely_is_found() {
 
 #[test]
 fn lines_are_counted_by_their_form() {
-    let output = b"az 1 zd 2\nmark 3\nno 15\nno 1\nok\n5 0\nno 15\n";
+    let output =
+        b"az 1 zd 2\nmark 3\nno 15\nshort 4 full 5 apart 1 bound 9\nno 1\nok\n5 0\nno 15\n";
     let counts = Counts::of_lines(output);
-    assert_eq!(counts.to_string(), "answered 2, no 1 1, no 15 2, others 2");
+    assert_eq!(counts.to_string(), "answered 3, no 1 1, no 15 2, others 2");
 }
 
 #[test]

@@ -48,6 +48,17 @@ pub struct ChoiceAnswer {
     pub count: u64,
 }
 
+/// `struct fieldbook_editions_answer`.
+#[repr(C)]
+#[derive(Clone, Copy, Debug, PartialEq, Eq)]
+pub struct EditionsAnswer {
+    pub refusal: u64,
+    pub short_edition: u64,
+    pub full_edition: u64,
+    pub apart: u64,
+    pub bound: u64,
+}
+
 /// `struct fieldbook_read_answer`.
 #[repr(C)]
 #[derive(Clone, Copy, Debug, PartialEq, Eq)]
@@ -103,6 +114,17 @@ extern "C" {
         second_count: usize,
     ) -> ChoiceAnswer;
 
+    fn fieldbook_editions(
+        year: i64,
+        month: i64,
+        day: i64,
+        hour: i64,
+        minute: i64,
+        millisecond: i64,
+        dut1: i64,
+        delta_t: i64,
+    ) -> EditionsAnswer;
+
     fn fieldbook_card_fresh(card: *mut i64, card_count: usize) -> u64;
 
     fn fieldbook_card_hear(card: *mut i64, card_count: usize, field: i64, number: i64) -> u64;
@@ -153,6 +175,13 @@ pub fn pointing(n: [i64; 11], angle: i64, options: Options) -> PointingAnswer {
 pub fn choice(first: &[i64], second: &[i64]) -> ChoiceAnswer {
     // SAFETY: the function is proved for all lists, only reads them, and keeps neither pointer.
     unsafe { fieldbook_choice(first.as_ptr(), first.len(), second.as_ptr(), second.len()) }
+}
+
+/// Both editions at an instant as the static library answers them: a shot's numbers without position
+/// and body.
+pub fn editions(n: [i64; 8]) -> EditionsAnswer {
+    // SAFETY: the function is proved for all numbers and is lent no memory.
+    unsafe { fieldbook_editions(n[0], n[1], n[2], n[3], n[4], n[5], n[6], n[7]) }
 }
 
 /// A fresh card in the words, as the static library writes it.

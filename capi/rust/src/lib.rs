@@ -2,9 +2,11 @@
 //! are those of `capi/fieldbook.h`.
 
 mod card;
+mod editions;
 mod ffi;
 
 pub use card::{Card, Field};
+pub use editions::{editions, Editions, Instant};
 pub use ffi::Options;
 
 /// The edition of the Sun's series without Mars, Jupiter and Saturn.

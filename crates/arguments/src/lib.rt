@@ -1,4 +1,4 @@
-// The time arguments of document 01, "Time", and document 02, request 7: angles that grow nearly evenly with time, each a row of three coefficients.
+// The time arguments of document 01, "Time", and document 02, request 7: angles that grow nearly evenly with time, each by three coefficients.
 mod tables;
 
 use epoch::Epoch;
@@ -21,32 +21,33 @@ pub use tables::P3;
 pub use tables::P4;
 pub use tables::SATURN;
 ghost use mathlib.Core.Path.{_≡_};
+ghost use mathlib.Core.List.{map};
 ghost use Prim.Native.Nat.{_<_};
 ghost use lib.ListN.{length};
 ghost use Rattle.exact.specs.Reduction.{turn};
 ghost use Rattle.epoch.specs.Sizes.{InSpan};
-ghost use Rattle.arguments.specs.Argument.{argument, argumentsBy};
+ghost use Rattle.arguments.specs.Argument.{argument, coefficients, argumentsBy};
 ghost use Rattle.arguments.specs.PrintedArguments.{furtherRows, argumentsOf, fullArgumentsOf};
 ghost use Rattle.arguments.specs.Sizes.{RowSized, RowsSized, IsArguments, IsFullArguments};
 
-// The angle of a row at an epoch.
-pub fn argument(row: [i64; 3], e: Epoch) -> u64
+// The angle of a stored row at an epoch.
+pub fn argument(row: [i64; 4], e: Epoch) -> u64
     requires { ⌜ RowSized row × InSpan e ⌝ }
-    ensures { λ r. ⌜ (r ≡ argument row e) × (r < turn) ⌝ }
+    ensures { λ r. ⌜ (r ≡ argument (coefficients row) e) × (r < turn) ⌝ }
 {
     let rest = Polynomial {
         c0: row[0],
         c1: 0,
-        c2: row[2],
+        c2: row[3],
         divisor: secular::SQUARE,
     };
-    exact::reduced_bounded(exact::per_century(row[1], e.n) + secular::value(rest, e.q))
+    exact::reduced_bounded(exact::per_century(row[1], row[2], e.n) + secular::value(rest, e.q))
 }
 
 // The angles of any table of rows, one for each.
-fn fill(angles: &mut [i64], rows: &[[i64; 3]], e: Epoch)
+fn fill(angles: &mut [i64], rows: &[[i64; 4]], e: Epoch)
     requires { ⌜ (length (now angles) ≡ length (now rows)) × RowsSized (now rows) × InSpan e ⌝ }
-    ensures { λ _. ⌜ now (angles .exit) ≡ argumentsBy (now (rows .entry)) e ⌝ }
+    ensures { λ _. ⌜ now (angles .exit) ≡ argumentsBy (map coefficients (now (rows .entry))) e ⌝ }
 {
     for i in 0..rows.len() {
         angles[i] = argument(rows[i], e) as i64;

@@ -3,5 +3,6 @@
 // keep nothing from one call to the next.
 mod cards;
 mod choices;
+mod editions;
 mod pointings;
 mod shots;

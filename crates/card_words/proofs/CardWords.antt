@@ -1,31 +1,17 @@
--- The words of a card: when two numbers in them are one, how many words they are, and how they come into lent ones.
+-- The words of a card: how many they are, and how they come into lent ones.
 use mathlib.Core.Path.{_≡_, refl, sym, ap, _∙_}
-use mathlib.Core.Bool.{true}
 use mathlib.Core.List.{List, [], _∷_, _++_, append-nil}
 use Prim.Native.Nat.{ℕ, zero, suc, _+_, _*_}
 use native.Mathlib.Numerals.{add-one}
 use native.Mathlib.Omega.{arith}
-use lib.IntN.{ℤ, pos, negsuc}
+use lib.IntN.{ℤ}
 use lib.ListN.{length, set, length-append, drop-of-length-le}
 use lib.Seq.{sets, sets-eq}
-use borrow.Author.Tests.{eqb-true, eq-eqb}
 use Rattle.card.specs.Fields.{fieldCount, fieldAt}
 use Rattle.card.specs.Confirmed.{fieldsFrom, fieldsOf}
-use Rattle.card_words.specs.Words.{wordCount, fieldWords, wordsOf, latestWords, cardWords, same, latestPlace}
+use Rattle.card_words.specs.Words.{wordCount, fieldWords, wordsOf, latestWords, cardWords, latestPlace}
 use Rattle.card.specs.declared.Field.{Field}
 use Rattle.card.specs.declared.Card.{Card}
-use Rattle.card.proofs.Clash.{clash}
-
--- ---- two numbers that are one
-pub same-true : (a b : ℤ) → same a b ≡ true → a ≡ b
-same-true (pos a) (pos b) e = ap pos (eqb-true a b e)
-same-true (pos a) (negsuc b) e = clash (cc)
-same-true (negsuc a) (pos b) e = clash (cc)
-same-true (negsuc a) (negsuc b) e = ap negsuc (eqb-true a b e)
-
-pub same-itself : (a : ℤ) → same a a ≡ true
-same-itself (pos a) = eq-eqb a a refl
-same-itself (negsuc a) = eq-eqb a a refl
 
 -- ---- how many words they are
 pub length-fields : (c : Card) (i k : ℕ) → length (fieldsFrom c i k) ≡ k

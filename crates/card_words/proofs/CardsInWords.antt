@@ -10,13 +10,14 @@ use lib.IntN.{ℤ, pos, negsuc, natAbs}
 use lib.ListN.{length, take, drop, length-append, drop-of-length-le, take-append-drop}
 use lib.Seq.{getD-at, getD-append-add, drop-cons, take-all}
 use borrow.Author.Tests.{le-leb, eqb-true, eq-eqb}
-use Rattle.exact.specs.Range.{between}
+use Rattle.exact.specs.Range.{between, same}
 use Rattle.exact.specs.Nth.{nth}
+use Rattle.exact.proofs.Choice.{same-true}
 use Rattle.exact.proofs.Machine.{between-nat, and-true}
 use Rattle.card.specs.Fields.{numberIn, fieldCount, isField, slotIndex, slot, fieldAt, fieldOf, Full}
 use Rattle.card.specs.Calls.{largestHeard, canBeHeard}
 use Rattle.card.specs.Confirmed.{fieldsFrom, fieldsOf}
-use Rattle.card_words.specs.Words.{wordCount, stateNumber, fieldWords, wordsOf, latestField, latestBefore, latestWords, cardWords, same, isFieldWords, fieldFrom, isLatestWords, latestFrom, areFields, slotsFrom, latestPlace, isCard, cardOf}
+use Rattle.card_words.specs.Words.{wordCount, stateNumber, fieldWords, wordsOf, latestField, latestBefore, latestWords, cardWords, isFieldWords, fieldFrom, isLatestWords, latestFrom, areFields, slotsFrom, latestPlace, isCard, cardOf}
 use Rattle.card.specs.declared.Field.{Field}
 use Rattle.card.specs.declared.Field.the-variants.{Empty, Heard, Read, Confirmed}
 use Rattle.card.specs.declared.Slot.{Slot}
@@ -24,7 +25,7 @@ use Rattle.card.specs.declared.Latest.{Latest}
 use Rattle.card.specs.declared.Latest.the-variants.{NothingToUndo, Before}
 use Rattle.card.specs.declared.Card.{Card}
 use Rattle.card.proofs.FieldNumbers.{field-found}
-use Rattle.card_words.proofs.CardWords.{same-true, length-fields, length-words}
+use Rattle.card_words.proofs.CardWords.{length-fields, length-words}
 use Rattle.card.proofs.Clash.{clash}
 use Rattle.card.specs.History.{Small, KeptSmall, HeldSmall}
 

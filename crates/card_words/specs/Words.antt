@@ -3,9 +3,9 @@ use mathlib.Core.Bool.{Bool, true, false, cond, _&&_}
 use mathlib.Core.List.{List, [], _∷_, _++_}
 use Prim.Native.Nat.{ℕ, zero, suc, _+_, _*_}
 use lib.Dec.{eqb}
-use lib.IntN.{ℤ, pos, negsuc}
+use lib.IntN.{ℤ, pos}
 use lib.ListN.{length}
-use Rattle.exact.specs.Range.{between}
+use Rattle.exact.specs.Range.{between, same}
 use Rattle.exact.specs.Nth.{nth}
 use Rattle.card.specs.Fields.{numberIn, fieldCount, isField, slot, cardOfParts, freshCard}
 use Rattle.card.specs.Calls.{canBeHeard}
@@ -53,13 +53,6 @@ abbrev pub cardWords : Card → List ℤ
 cardWords c = wordsOf (fieldsOf c) ++ latestWords (c .latest)
 
 -- ---- which words are a card, and which card
--- two numbers are one
-abbrev pub same : ℤ → ℤ → Bool
-same (pos a) (pos b) = eqb a b
-same (pos a) (negsuc b) = false
-same (negsuc a) (pos b) = false
-same (negsuc a) (negsuc b) = eqb a b
-
 -- two words are a field's where the first is a state's number and the second can be heard; with an empty field it is 0
 abbrev pub isFieldWords : ℤ → ℤ → Bool
 isFieldWords s z = cond (same s (pos 0)) (same z (pos 0)) (between (pos 1) s (pos 3) && canBeHeard z)

@@ -12,7 +12,7 @@ ghost use mathlib.Core.Bool.{true};
 ghost use Prim.Native.Nat.{_+_, _≤_};
 ghost use lib.ListN.{length};
 ghost use lib.Seq.{sets};
-ghost use Rattle.card_words.specs.Words.{wordCount, stateNumber, fieldWords, latestField, latestBefore, cardWords, same, isFieldWords, fieldFrom, isLatestWords, latestFrom, wholeCard, noCard, withFields, restoredFrom};
+ghost use Rattle.card_words.specs.Words.{wordCount, stateNumber, fieldWords, latestField, latestBefore, cardWords, isFieldWords, fieldFrom, isLatestWords, latestFrom, wholeCard, noCard, withFields, restoredFrom};
 
 // How many words a card has.
 pub const WORDS: usize = 25;
@@ -38,19 +38,12 @@ fn state_number(field: Field) -> i64
     }
 }
 
-// Whether two numbers are one.
-fn same(a: i64, b: i64) -> bool
-    ensures { λ r. ⌜ r ≡ same a b ⌝ }
-{
-    a == b
-}
-
 // Whether two words are a field's: a state that is one, and a number that can be heard, or 0 with an empty field.
 fn is_field_words(state: i64, number: i64) -> bool
     ensures { λ r. ⌜ r ≡ isFieldWords state number ⌝ }
 {
-    if same(state, 0) {
-        return same(number, 0);
+    if exact::same(state, 0) {
+        return exact::same(number, 0);
     }
     exact::between(1, state, 3) && exact::between(-LARGEST_HEARD, number, LARGEST_HEARD)
 }
@@ -59,13 +52,13 @@ fn is_field_words(state: i64, number: i64) -> bool
 fn field_from(state: i64, number: i64) -> Field
     ensures { λ r. ⌜ r ≡ fieldFrom state number ⌝ }
 {
-    if same(state, 1) {
+    if exact::same(state, 1) {
         return Field::Heard(number);
     }
-    if same(state, 2) {
+    if exact::same(state, 2) {
         return Field::Read(number);
     }
-    if same(state, 3) {
+    if exact::same(state, 3) {
         return Field::Confirmed(number);
     }
     Field::Empty
@@ -75,8 +68,8 @@ fn field_from(state: i64, number: i64) -> Field
 fn is_latest_words(field: i64, state: i64, number: i64) -> bool
     ensures { λ r. ⌜ r ≡ isLatestWords field state number ⌝ }
 {
-    if same(field, 0) {
-        return same(state, 0) && same(number, 0);
+    if exact::same(field, 0) {
+        return exact::same(state, 0) && exact::same(number, 0);
     }
     card::is_field(field) && is_field_words(state, number)
 }
@@ -84,7 +77,7 @@ fn is_latest_words(field: i64, state: i64, number: i64) -> bool
 fn latest_from(field: i64, state: i64, number: i64) -> Latest
     ensures { λ r. ⌜ r ≡ latestFrom field state number ⌝ }
 {
-    if same(field, 0) {
+    if exact::same(field, 0) {
         return Latest::NothingToUndo;
     }
     Latest::Before(field, field_from(state, number))

@@ -2,13 +2,13 @@
 // square root. Document 01, "Units and rounding".
 ghost use mathlib.Core.Path.{_≡_};
 ghost use Prim.Native.Nat.{_+_, _*_, _/_, _<_, _≤_, _^_};
-ghost use lib.IntN.{pos, natAbs, _*ℤ_};
+ghost use lib.IntN.{pos, natAbs, _+ℤ_, _*ℤ_};
 ghost use lib.Signed.{_<ℤ_, _≤ℤ_};
 ghost use Rattle.exact.specs.Division.{floorDiv, nearestDiv};
-ghost use Rattle.exact.specs.Reduction.{turn, isReduced, reduced};
+ghost use Rattle.exact.specs.Reduction.{turn, isReduced, reduced, apart, shortWay};
 ghost use Rattle.exact.specs.Century.{century};
 ghost use Rattle.exact.specs.Largest.{root};
-ghost use Rattle.exact.specs.Range.{between};
+ghost use Rattle.exact.specs.Range.{between, same};
 
 // A turn, in units of 0.0001″.
 pub const TURN: i64 = 12_960_000_000;
@@ -27,6 +27,13 @@ pub fn between(low: i64, x: i64, high: i64) -> bool
     ensures { λ r. ⌜ r ≡ between low x high ⌝ }
 {
     low <= x && x <= high
+}
+
+// Whether two numbers are one.
+pub fn same(a: i64, b: i64) -> bool
+    ensures { λ r. ⌜ r ≡ same a b ⌝ }
+{
+    a == b
 }
 
 // A number without its sign; also of the least i64, whose negative is no i64.
@@ -81,6 +88,23 @@ pub fn reduced_bounded(a: i64) -> u64
     (a + TURNS) as u64 % TURN as u64
 }
 
+// How far two angles are apart, without passing 0.
+fn apart(a: u64, b: u64) -> u64
+    ensures { λ r. ⌜ r ≡ apart a b ⌝ }
+{
+    if a < b { b - a } else { a - b }
+}
+
+// How far two reduced angles are apart the short way round.
+pub fn short_way(a: u64, b: u64) -> u64
+    requires { ⌜ (a < turn) × (b < turn) ⌝ }
+    ensures { λ r. ⌜ r ≡ shortWay a b ⌝ }
+{
+    let apart = apart(a, b);
+    let round = TURN as u64 - apart;
+    if round < apart { round } else { apart }
+}
+
 // b * n / CENTURY, rounded down, of natural numbers. As CENTURY is 1,000,000 * MILLIONTH, n = q * MILLIONTH + r has the quotient
 // (b * q + b * r / MILLIONTH) / 1,000,000, whose products fit.
 fn rest_per_century(b: u64, n: u64) -> u64
@@ -90,13 +114,13 @@ fn rest_per_century(b: u64, n: u64) -> u64
     (b * (n / MILLIONTH) + b * (n % MILLIONTH) / MILLIONTH) / 1_000_000
 }
 
-// c * n / CENTURY, rounded down, for a natural n, where the product may have 88 bits: with c = CENTURY * a + b it is b * n / CENTURY + a * n.
-pub fn per_century(c: i64, n: i64) -> i64
-    requires { ⌜ (natAbs c < 2 ^ 45) × (pos 0 ≤ℤ n) × (natAbs n < 2 ^ 43) ⌝ }
-    ensures { λ r. ⌜ r ≡ floorDiv (c *ℤ n) century ⌝ }
+// c * n / CENTURY, rounded down, for a natural n, where the product may have 88 bits. With c = CENTURY * whole + rest it is
+// rest * n / CENTURY + whole * n, and c is given in these two parts.
+pub fn per_century(whole: i64, rest: i64, n: i64) -> i64
+    requires { ⌜ (natAbs whole ≤ 12) × ((pos 0 ≤ℤ rest) × (natAbs rest < century)) × ((pos 0 ≤ℤ n) × (natAbs n < 2 ^ 43)) ⌝ }
+    ensures { λ r. ⌜ r ≡ floorDiv ((pos century *ℤ whole +ℤ rest) *ℤ n) century ⌝ }
 {
-    let a = floor_div(c, CENTURY);
-    rest_per_century((c - CENTURY * a) as u64, n as u64) as i64 + a * n
+    rest_per_century(rest as u64, n as u64) as i64 + whole * n
 }
 
 // The integer square root, the largest h with h * h <= x, by Newton's steps down from above: a step from any number lands at the

@@ -10,6 +10,7 @@ ghost use Rattle.exact.specs.Reduction.{turn};
 ghost use Rattle.sine_table.specs.Table.{entries};
 ghost use Rattle.epoch.specs.Sizes.{InSpan};
 ghost use Rattle.arguments.specs.Sizes.{IsArguments};
+ghost use Rattle.frame.specs.Nutation.{dpsi, deps};
 ghost use Rattle.frame.specs.Sidereal.{equinoxes, siderealTime};
 ghost use Rattle.frame.specs.FrameContract.{IsFrame};
 
@@ -21,28 +22,44 @@ pub struct Frame {
     pub epsilon: i64,
 }
 
-// The frame of an epoch, from its arguments.
-pub fn frame_of(t: &SineTable, arguments: &[i64], e: Epoch) -> Frame
+// Δψ of an epoch, from its arguments.
+pub fn dpsi(t: &SineTable, arguments: &[i64], e: Epoch) -> i64
     requires { ⌜ (now t ≡ entries) × IsArguments (now arguments) × InSpan e ⌝ }
-    ensures { λ r. ⌜ IsFrame (now (arguments .entry)) (e .q) r ⌝ }
+    ensures { λ r. ⌜ (r ≡ dpsi (now (arguments .entry)) (e .q)) × (natAbs r ≤ 2 ^ 20) ⌝ }
 {
-    let epsilon0 = arguments[arguments::EPSILON0];
-    let dpsi = series::rounded_sum(
+    series::rounded_sum(
         t,
         &tables::DPSI_VARYING,
         &tables::DPSI_GROUPS,
         &tables::DPSI_ROWS,
         arguments,
         e.q,
-    );
-    let deps = series::rounded_sum(
+    )
+}
+
+// Δε of an epoch, from its arguments.
+fn deps(t: &SineTable, arguments: &[i64], e: Epoch) -> i64
+    requires { ⌜ (now t ≡ entries) × IsArguments (now arguments) × InSpan e ⌝ }
+    ensures { λ r. ⌜ (r ≡ deps (now (arguments .entry)) (e .q)) × (natAbs r ≤ 2 ^ 20) ⌝ }
+{
+    series::rounded_sum(
         t,
         &tables::DEPS_VARYING,
         &tables::DEPS_GROUPS,
         &tables::DEPS_ROWS,
         arguments,
         e.q,
-    );
+    )
+}
+
+// The frame of an epoch, from its arguments.
+pub fn frame_of(t: &SineTable, arguments: &[i64], e: Epoch) -> Frame
+    requires { ⌜ (now t ≡ entries) × IsArguments (now arguments) × InSpan e ⌝ }
+    ensures { λ r. ⌜ IsFrame (now (arguments .entry)) (e .q) r ⌝ }
+{
+    let epsilon0 = arguments[arguments::EPSILON0];
+    let dpsi = dpsi(t, arguments, e);
+    let deps = deps(t, arguments, e);
     Frame {
         epsilon0: epsilon0,
         dpsi: dpsi,

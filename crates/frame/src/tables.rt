@@ -38,4 +38,4 @@ pub const DEPS_ROWS: [[i64; 5]; 4] = [
 
 // What Newcomb's sidereal time has beyond the time since midnight, a row like those of `arguments`, in units: 6h 38m 45.836s, 8640184.542s T,
 // 0.0929s T².
-pub const SIDEREAL: [i64; 3] = [3_588_875_400, 1_296_027_681_300, 13_935];
+pub const SIDEREAL: [i64; 4] = [3_588_875_400, 0, 1_296_027_681_300, 13_935];

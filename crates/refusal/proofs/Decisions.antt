@@ -21,19 +21,26 @@ pub decided-append : {A : Type 0} (s t : List Test) (answer : A) (refused : ℕ 
 decided-append [] t answer refused = refl
 decided-append (x ∷ s) t answer refused = ap (λ a. cond (x .passes) a (refused (x .number))) (decided-append s t answer refused)
 
--- what holds of the answer and of each refusal holds of what is decided
+-- each refusal of the tests
 abbrev pub Each : (ℕ → Type 0) → List Test → Type 0
 Each P [] = Unit {0}
 Each P (t ∷ ts) = P (t .number) × Each P ts
 
-either-way : {A : Type 0} (P : A → Type 0) (b : Bool) {x y : A} → P x → P y → P (cond b x y)
-either-way P true p q = p
-either-way P false p q = q
+-- what holds of each refusal, and of the answer where the tests pass, as another decision by them tells, holds of what is decided
+pub holds-accepted : {A B : Type 0} (P : A → Type 0) (ts : List Test) (answer : A) (refused : ℕ → A) (b : B) (other : ℕ → B) → (decided ts b other ≡ b → P answer)
+    → Each (λ k. P (refused k)) ts → P (decided ts answer refused)
+holds-accepted P [] answer refused b other p q = p refl
+holds-accepted {A = A} {B = B} P (t ∷ ts) answer refused b other p q =
+    by (t .passes) (decided ts answer refused) (decided ts b other) p (λ h. holds-accepted P ts answer refused b other h (q .1))
+  where
+    by : (pass : Bool) (x : A) (y : B) → (cond pass y (other (t .number)) ≡ b → P answer) → ((y ≡ b → P answer) → P x) → P (cond pass x (refused (t .number)))
+    by true x y p f = f p
+    by false x y p f = q .0
 
+-- also where it holds of the answer in any case
 pub holds-decided : {A : Type 0} (P : A → Type 0) (ts : List Test) (answer : A) (refused : ℕ → A) → P answer → Each (λ k. P (refused k)) ts
     → P (decided ts answer refused)
-holds-decided P [] answer refused p q = p
-holds-decided P (t ∷ ts) answer refused p q = either-way P (t .passes) (holds-decided P ts answer refused p (q .1)) (q .0)
+holds-decided P ts answer refused p q = holds-accepted P ts answer refused answer refused (λ e. p) q
 
 -- every refusal has a number
 pub number-above-zero : (r : Refusal) → 0 < numberOf r

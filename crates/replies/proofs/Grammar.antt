@@ -2,7 +2,7 @@
 use mathlib.Core.Path.{_≡_, refl, sym, ap, _∙_}
 use mathlib.Core.Bool.{Bool, true, cond}
 use mathlib.Core.List.{List, [], _∷_}
-use Prim.Native.Nat.{ℕ, _+_, _≤_}
+use Prim.Native.Nat.{ℕ, _+_, _≤_, _<_}
 use native.Mathlib.Omega.{arith}
 use lib.Dec.{leb}
 use lib.IntN.{ℤ, pos}
@@ -11,28 +11,28 @@ use lib.Seq.{getD-take, length-take-le}
 use borrow.Author.Tests.{eq-eqb, ne-eqb, leb-true}
 use Rattle.exact.specs.Nth.{nth}
 use Rattle.exact.proofs.Machine.{and-true}
-use Rattle.card.specs.Fields.{fieldCount}
-use Rattle.fieldbook.specs.Shot.{optionCount}
 use Rattle.lines.specs.Numerals.{numbersOf, rowLength}
 use Rattle.replies.specs.Commands.{fieldCommand, letterCommand, sessionCommand}
-use Rattle.replies.specs.Answers.{refusalText, numbersAsked, isAsked, askedText, batchText}
+use Rattle.replies.specs.Answers.{refusalText, numbersAsked, optionsAsked, isAsked, askedText, batchText}
 use Rattle.replies.specs.declared.Command.the-variants.{Hear, Shoot, Malformed}
 use Rattle.replies.specs.declared.Question.{Question}
-use Rattle.replies.specs.declared.Question.the-variants.{Shot, Pointing}
+use Rattle.replies.specs.declared.Question.the-variants.{Shot, Pointing, Editions}
 
--- a question takes a number for each field, and with its options no more than a row has
-pub asked-fields : (q : Question) → fieldCount ≤ numbersAsked q
-asked-fields Shot = omega arith
-asked-fields Pointing = omega arith
+-- a question takes some numbers, and with its options no more than a row has
+pub asked-some : (q : Question) → 0 < numbersAsked q
+asked-some Shot = omega arith
+asked-some Pointing = omega arith
+asked-some Editions = omega arith
 
-pub asked-few : (q : Question) → numbersAsked q + optionCount ≤ rowLength
+pub asked-few : (q : Question) → numbersAsked q + optionsAsked q ≤ rowLength
 asked-few Shot = omega arith
 asked-few Pointing = omega arith
+asked-few Editions = omega arith
 
 -- what the test of a count says
-pub asked-count : (q : Question) (n : ℕ) → isAsked q n ≡ true → (numbersAsked q ≤ n) × (n ≤ numbersAsked q + optionCount)
+pub asked-count : (q : Question) (n : ℕ) → isAsked q n ≡ true → (numbersAsked q ≤ n) × (n ≤ numbersAsked q + optionsAsked q)
 asked-count q n e =
-    let h = and-true (leb (numbersAsked q) n) (leb n (numbersAsked q + optionCount)) e in
+    let h = and-true (leb (numbersAsked q) n) (leb n (numbersAsked q + optionsAsked q)) e in
     (leb-true _ _ (h .0), leb-true _ _ (h .1))
 
 -- by the first n numbers of a row's array

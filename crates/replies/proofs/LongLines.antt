@@ -12,20 +12,19 @@ use lib.ListN.{length, take, length-append}
 use lib.Seq.{take-all, length-take-le}
 use borrow.Author.Tests.{le-ltb, lt-ltb, ne-eqb, leb-true, leb-false}
 use Rattle.card.specs.declared.Card.{Card}
-use Rattle.fieldbook.specs.Shot.{optionCount}
 use Rattle.lines.specs.Numerals.{digitsOf, plus, minus, numeralOf, prefixed, words, rowLength, ifNumber, numbersBehind, numbersOf}
 use Rattle.lines.specs.declared.Digits.the-variants.{Other}
 use Rattle.lines.specs.declared.Numeral.{Numeral}
 use Rattle.lines.specs.declared.Numeral.the-variants.{Number, NoNumber}
 use Rattle.lines.proofs.Words.{first-word}
 use Rattle.replies.specs.Commands.{letterCommand, sessionCommand, longestLine}
-use Rattle.replies.specs.Answers.{refusalText, commandText, commandCard, numbersAsked, isAsked, batchReply, reply, next}
+use Rattle.replies.specs.Answers.{refusalText, commandText, commandCard, numbersAsked, optionsAsked, isAsked, batchReply, reply, next}
 use Rattle.replies.specs.declared.Command.{Command}
 use Rattle.replies.specs.declared.Command.the-variants.{Malformed}
 use Rattle.replies.specs.declared.Protocol.{Protocol}
 use Rattle.replies.specs.declared.Protocol.the-variants.{Session, Batch}
 use Rattle.replies.specs.declared.Question.{Question}
-use Rattle.replies.proofs.Grammar.{asked-fields, asked-few, asked-count}
+use Rattle.replies.proofs.Grammar.{asked-some, asked-few, asked-count}
 
 same : {A : Type 0} (b : Bool) {x y z : A} → x ≡ z → y ≡ z → cond b x y ≡ z
 same true p q = p
@@ -118,10 +117,10 @@ long-session (c ∷ s ∷ l) h = same (eqb s 32) (long-letter c l (omega arith))
 long-asked : (q : Question) (l : List ℕ) → longestLine < length l → isAsked q (length (numbersOf 18 l)) ≡ false
 long-asked q l h = by (isAsked q (length (numbersOf 18 l))) refl
   where
-    too-long : (n : ℕ) → length (numbersOf 18 l) ≡ n → numbersAsked q ≤ n → n ≤ numbersAsked q + optionCount → ⊥
+    too-long : (n : ℕ) → length (numbersOf 18 l) ≡ n → numbersAsked q ≤ n → n ≤ numbersAsked q + optionsAsked q → ⊥
     too-long n e least most =
         let f = asked-few q in
-        let g = asked-fields q in
+        let g = asked-some q in
         not-so-many 18 n l (omega arith) (omega arith) e
 
     by : (b : Bool) → isAsked q (length (numbersOf 18 l)) ≡ b → isAsked q (length (numbersOf 18 l)) ≡ false

@@ -16,20 +16,24 @@ use Rattle.card.specs.Calls as Calls
 use Rattle.card.specs.Calls.{CardValues, accepted, hearTests, hearCard, hear, confirmTests, confirm, heldTests}
 use Rattle.card.specs.declared.Card.{Card}
 use Rattle.card.specs.declared.Field.the-variants.{Confirmed}
+use Rattle.calendar.specs.Time.{instantEpochs, instantTests}
+use Rattle.calendar.specs.declared.CivilTime.{CivilTime}
 use Rattle.fieldbook.specs.Shot.{defaults, refused, tests, answerOf, shot, cardQuery, shotFromCard}
 use Rattle.fieldbook.specs.declared.Query.{Query}
 use Rattle.pointing.specs.Pointing as Mark
 use Rattle.pointing.specs.Pointing.{pointingTests, pointed, pointing}
+use Rattle.short_series.specs.Editions as Series
+use Rattle.short_series.specs.Editions.{comparedAt, editions}
 use Rattle.lines.specs.Numerals.{numbersOf}
 use Rattle.lines.specs.Appending.{decimalText}
 use Rattle.replies.specs.Commands.{sessionCommand}
-use Rattle.replies.specs.Answers.{refusalText, verdictText, readText, shotText, markText, commandText, isAsked, askedText, batchReply, reply}
+use Rattle.replies.specs.Answers.{refusalText, verdictText, readText, shotText, markText, editionsText, commandText, isAsked, askedText, batchReply, reply}
 use Rattle.replies.specs.declared.Command.{Command}
 use Rattle.replies.specs.declared.Command.the-variants.{Hear, Read, Confirm, Shoot, Malformed}
 use Rattle.replies.specs.declared.Protocol.{Protocol}
 use Rattle.replies.specs.declared.Protocol.the-variants.{Session, Batch}
 use Rattle.replies.specs.declared.Question.{Question}
-use Rattle.replies.specs.declared.Question.the-variants.{Shot, Pointing}
+use Rattle.replies.specs.declared.Question.the-variants.{Shot, Pointing, Editions}
 
 abbrev NotEleven : List ℕ → Type 0
 NotEleven t = t ++ (10 ∷ []) ≢ refusalText 11 ++ (10 ∷ [])
@@ -108,6 +112,13 @@ module _ (x : Query) where
       let v = Mark.answered (Mark.markAzimuth (shot x .azimuth) angle) in
       holds-decided (λ a. NotEleven (markText a)) (pointingTests (shot x) angle) v Mark.refused (differs 0 (markText v) refl) (refused-mark-is-not, (tell 15 refl, tt))
 
+editions-is-not : (t : CivilTime) → NotEleven (editionsText (editions t))
+unfolding editions comparedAt decimalText decimal decimalIn
+editions-is-not t =
+    let v = comparedAt (instantEpochs t .ephemeris) in
+    holds-decided (λ a. NotEleven (editionsText a)) (instantTests t) v Series.refused (differs 0 (editionsText v) refl)
+    (tell 2 refl, (tell 3 refl, (tell 4 refl, (tell 17 refl, tt))))
+
 command-is-not : (a : Command) (c : Card) → NotEleven (commandText a c)
 unfolding decimalText decimal decimalIn
 command-is-not (Hear f z) c = hear-is-not c f z
@@ -119,6 +130,7 @@ command-is-not Malformed c = tell 14 refl
 asked-is-not : (q : Question) (l : List ℤ) → NotEleven (askedText q l)
 asked-is-not Shot l = shot-is-not _
 asked-is-not Pointing l = mark-is-not _ _
+asked-is-not Editions l = editions-is-not _
 
 -- (b: whether there are as many numbers as the question may have)
 batch-is-not : (b : Bool) (q : Question) (l : List ℤ) → NotEleven (cond b (askedText q l) (refusalText 14))

@@ -1,4 +1,4 @@
--- Document 01, "One session, whole", and document 02, requests 1 and 7 (RULES.md, "Lines"): what a line is answered, and the card after it. An answer is a
+-- Document 01, "One session, whole", and document 02, requests 1, 7 and 8 (RULES.md, "Lines"): what a line is answered, and the card after it. An answer is a
 -- line of ASCII bytes that ends in a newline.
 use mathlib.Core.Bool.{Bool, cond, _&&_}
 use mathlib.Core.List.{List, [], _∷_, _++_}
@@ -14,6 +14,7 @@ use Rattle.card.specs.Calls.{hear, confirm, heldTests, readCard}
 use Rattle.card.specs.declared.Card.{Card}
 use Rattle.fieldbook.specs.Shot.{ShotValues, defaults, optionCount, queryOf, shot, shotFromCard}
 use Rattle.pointing.specs.Pointing.{PointingValues, pointing}
+use Rattle.short_series.specs.Editions.{EditionsValues, numberCount, timeOf, editions}
 use Rattle.lines.specs.Numerals.{numbersOf}
 use Rattle.lines.specs.Appending.{decimalText}
 use Rattle.replies.specs.Commands.{sessionCommand}
@@ -22,7 +23,7 @@ use Rattle.replies.specs.declared.Command.the-variants.{Hear, Read, Conf
 use Rattle.replies.specs.declared.Protocol.{Protocol}
 use Rattle.replies.specs.declared.Protocol.the-variants.{Session, Batch}
 use Rattle.replies.specs.declared.Question.{Question}
-use Rattle.replies.specs.declared.Question.the-variants.{Shot, Pointing}
+use Rattle.replies.specs.declared.Question.the-variants.{Shot, Pointing, Editions}
 
 -- a label and a number in plain decimal
 abbrev pub labelledText : List ℕ → ℕ → List ℕ
@@ -67,20 +68,41 @@ shotText p v = cond (eqb (v .refusal) 0) (anglesText p v) (refusalText (v .refus
 abbrev pub markText : PointingValues → List ℕ
 markText v = cond (eqb (v .refusal) 0) (labelledText (109 ∷ 97 ∷ 114 ∷ 107 ∷ 32 ∷ []) (v .mark)) (refusalText (v .refusal))
 
+-- ---- both editions
+-- `short S full F`, in units of 0.0001″
+abbrev pub longitudesText : EditionsValues → List ℕ
+longitudesText v = pairText (115 ∷ 104 ∷ 111 ∷ 114 ∷ 116 ∷ 32 ∷ []) (v .short) (32 ∷ 102 ∷ 117 ∷ 108 ∷ 108 ∷ 32 ∷ []) (v .full)
+
+-- and ` apart D bound B` behind it
+abbrev pub comparedText : EditionsValues → List ℕ
+comparedText v =
+    longitudesText v ++ pairText (32 ∷ 97 ∷ 112 ∷ 97 ∷ 114 ∷ 116 ∷ 32 ∷ []) (v .apart) (32 ∷ 98 ∷ 111 ∷ 117 ∷ 110 ∷ 100 ∷ 32 ∷ []) (v .bound)
+
+abbrev pub editionsText : EditionsValues → List ℕ
+editionsText v = cond (eqb (v .refusal) 0) (comparedText v) (refusalText (v .refusal))
+
 -- ---- the numbers of a line of a batch
--- how many the question takes: a shot one for each field, in the order of the card, and a pointing the horizontal angle behind them
+-- how many the question takes: a shot one for each field, in the order of the card, a pointing the horizontal angle behind them, and both editions those of
+-- an instant
 abbrev pub numbersAsked : Question → ℕ
 numbersAsked Shot = fieldCount
 numbersAsked Pointing = suc fieldCount
+numbersAsked Editions = numberCount
 
--- options may stand behind these, in their order
+-- behind those of a shot or a pointing options may stand, in their order
+abbrev pub optionsAsked : Question → ℕ
+optionsAsked Shot = optionCount
+optionsAsked Pointing = optionCount
+optionsAsked Editions = 0
+
 abbrev pub isAsked : Question → ℕ → Bool
-isAsked q count = leb (numbersAsked q) count && leb count (numbersAsked q + optionCount)
+isAsked q count = leb (numbersAsked q) count && leb count (numbersAsked q + optionsAsked q)
 
 -- what so many are answered: an option that is left out has its default
 abbrev pub askedText : Question → List ℤ → List ℕ
 askedText Shot l = shotText (Batch Shot) (shot (queryOf l (numbersAsked Shot)))
 askedText Pointing l = markText (pointing (queryOf l (numbersAsked Pointing)) (nth l fieldCount))
+askedText Editions l = editionsText (editions (timeOf l))
 
 -- and what any are: where there are more or fewer, the line is malformed
 abbrev pub batchText : Question → List ℤ → List ℕ

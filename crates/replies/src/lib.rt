@@ -7,6 +7,7 @@ use lines::Row;
 use pointing::Mark;
 use refusal::Refusal;
 use refusal::Verdict;
+use short_series::Answer;
 use sine_table::SineTable;
 ghost use mathlib.Core.Path.{_≡_};
 ghost use Prim.Native.Nat.{suc, _+_, _≤_};
@@ -16,11 +17,12 @@ ghost use Rattle.sine_table.specs.Table.{entries};
 ghost use Rattle.card.specs.Calls as Calls;
 ghost use Rattle.fieldbook.specs.Shot.{shotValues};
 ghost use Rattle.pointing.specs.Pointing.{pointingValues};
+ghost use Rattle.short_series.specs.Editions.{editionsValues};
 ghost use Rattle.lines.specs.Numerals.{rowLength, listed};
 ghost use Rattle.lines.specs.Appending.{Appends};
 ghost use Rattle.replies.specs.Commands.{fieldCommand, letterCommand, sessionCommand};
 ghost use Rattle.replies.specs.Sizes.{longest};
-ghost use Rattle.replies.specs.Answers.{labelledText, pairText, refusalText, verdictText, readText, cardRead, shotText, markText, numbersAsked, isAsked, askedText, batchText, commandText, commandCard, batchReply, reply, next};
+ghost use Rattle.replies.specs.Answers.{labelledText, pairText, refusalText, verdictText, readText, cardRead, shotText, markText, editionsText, numbersAsked, optionsAsked, isAsked, askedText, batchText, commandText, commandCard, batchReply, reply, next};
 ghost use Rattle.replies.specs.declared.Protocol.the-variants.{Session};
 
 // The most digits of a number in a line of the session, and of a batch.
@@ -29,7 +31,7 @@ const SESSION_DIGITS: usize = 9;
 const BATCH_DIGITS: usize = 18;
 
 // The most bytes that an answer takes, without its newline.
-const LONGEST: usize = 95;
+const LONGEST: usize = 106;
 
 // Which program's lines.
 pub enum Protocol {
@@ -46,6 +48,8 @@ pub enum Question {
     // A pointing: these, and behind them the horizontal angle, clockwise from the mark to the body in units of 0.0001 second of arc.
     // Behind the numbers of either may stand options, in their order.
     Pointing,
+    // Both editions of the Sun's series at an instant: fields 1 to 7 and 11 of the card.
+    Editions,
 }
 
 // What a line of the session asks.
@@ -191,6 +195,21 @@ fn append_mark(out: &mut [u8], place: usize, mark: Mark) -> usize
     }
 }
 
+// Appends the answer to an instant by both editions: the two longitudes, how far they are apart, and the bound of that.
+fn append_editions(out: &mut [u8], place: usize, answer: Answer) -> usize
+    requires { ⌜ place + longest ≤ length (now out) ⌝ }
+    ensures { λ r. ⌜ Appends (now (out .entry)) place (editionsText (editionsValues answer)) (now (out .exit)) r ⌝ }
+    ensures { λ r. ⌜ r ≤ place + longest ⌝ }
+{
+    match answer {
+        Answer::Compared(c) => {
+            let end = append_pair(out, place, b"short ", c.short, b" full ", c.full);
+            append_pair(out, end, b" apart ", c.apart, b" bound ", c.bound)
+        }
+        Answer::Refused(refusal) => append_refusal(out, place, refusal),
+    }
+}
+
 // How many numbers the line of a question has before its options.
 fn numbers_asked(question: Question) -> usize
     ensures { λ r. ⌜ r ≡ numbersAsked question ⌝ }
@@ -198,6 +217,18 @@ fn numbers_asked(question: Question) -> usize
     match question {
         Question::Shot => card::FIELDS,
         Question::Pointing => card::FIELDS + 1,
+        Question::Editions => short_series::NUMBERS,
+    }
+}
+
+// How many options may stand behind them.
+fn options_asked(question: Question) -> usize
+    ensures { λ r. ⌜ r ≡ optionsAsked question ⌝ }
+{
+    match question {
+        Question::Shot => fieldbook::OPTIONS,
+        Question::Pointing => fieldbook::OPTIONS,
+        Question::Editions => 0,
     }
 }
 
@@ -206,7 +237,7 @@ fn is_asked(question: Question, count: usize) -> bool
     ensures { λ r. ⌜ r ≡ isAsked question count ⌝ }
 {
     let asked = numbers_asked(question);
-    asked <= count && count <= asked + fieldbook::OPTIONS
+    asked <= count && count <= asked + options_asked(question)
 }
 
 // Appends the answer to a question, which as many numbers ask as it takes, and options behind them.
@@ -221,15 +252,20 @@ fn append_asked(
     ensures { λ r. ⌜ Appends (now (out .entry)) place (askedText question (now (list .entry))) (now (out .exit)) r ⌝ }
     ensures { λ r. ⌜ r ≤ place + longest ⌝ }
 {
-    let query = fieldbook::query_of(list, numbers_asked(question));
     match question {
         Question::Shot => {
+            let query = fieldbook::query_of(list, card::FIELDS);
             let protocol = Protocol::Batch(Question::Shot);
             append_shot(out, place, protocol, fieldbook::shot_with(t, query))
         }
         Question::Pointing => {
+            let query = fieldbook::query_of(list, card::FIELDS + 1);
             let angle = list[card::FIELDS];
             append_mark(out, place, pointing::pointing_with(t, query, angle))
+        }
+        Question::Editions => {
+            let time = short_series::time_of(list);
+            append_editions(out, place, short_series::editions_with(t, time))
         }
     }
 }

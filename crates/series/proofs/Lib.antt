@@ -6,3 +6,4 @@ pub mod SumBound
 pub mod Cosine
 pub mod Front
 pub mod Steady
+pub mod Compared

@@ -2,7 +2,7 @@
 use mathlib.Core.Path.{_≡_, sym, ap, _∙_}
 use mathlib.Core.List.{List, [], _∷_, _++_}
 use Prim.Native.Nat.{ℕ, _+_, _*_, _^_, _≤_, _<_}
-use native.Mathlib.Nat.{le-refl, le-trans, le-of-lt, zero-div}
+use native.Mathlib.Nat.{le-refl, le-trans, le-of-lt, mul-le-mul-left, zero-div}
 use native.Mathlib.Omega.{arith}
 use lib.IntN.{ℤ, pos, natAbs, _+ℤ_, _*ℤ_}
 use lib.Signed.{leZ-yes}
@@ -89,17 +89,19 @@ unfolding angleOf
 angle-lt arguments t = reduced-lt _
 
 -- with any function that is at most k in magnitude on the turn
-total-le : (f : ℕ → ℤ) (k : ℕ) (arguments : List ℤ) (q : ℤ) → natAbs q ≤ mostMillionths → ((a : ℕ) → a < turn → natAbs (f a) ≤ k)
-    → (ts : List Term) → natAbs (total f arguments q ts) ≤ k * weights ts
-unfolding total weights value
-total-le f k arguments q h g [] = omega arith
-total-le f k arguments q h g (t ∷ ts) =
-    let z = amplitudeOf t q *ℤ f (angleOf arguments t) in
-    let here : natAbs z ≤ weight t * k = abs-*-le (amplitudeOf t q) (f (angleOf arguments t)) (weight t) k (amplitude-weight t q h) (g (angleOf arguments t) (angle-lt arguments t)) in
-    le-trans (grow z (total f arguments q ts) (weight t * k) (k * weights ts) here (total-le f k arguments q h g ts)) (omega arith)
+pub total-le : (f : ℕ → ℤ) (k : ℕ) → ((a : ℕ) → a < turn → natAbs (f a) ≤ k) → (arguments : List ℤ) (q : ℤ) (ts : List Term)
+    → natAbs (total f arguments q ts) ≤ k * amplitudes ts q
+unfolding total amplitudes value
+total-le f k g arguments q [] = omega arith
+total-le f k g arguments q (t ∷ ts) =
+    let c = amplitudeOf t q in
+    let a = angleOf arguments t in
+    le-trans (grow (c *ℤ f a) (total f arguments q ts) (natAbs c * k) (k * amplitudes ts q) (abs-*-le c (f a) (natAbs c) k (le-refl _) (g a (angle-lt arguments t))) (total-le f k g arguments q ts))
+    (omega arith)
   where
     grow : (a b : ℤ) (m n : ℕ) → natAbs a ≤ m → natAbs b ≤ n → natAbs (a +ℤ b) ≤ m + n
     grow a b m n = rw (split a, split b) (simp zs (omega arith))
 
 pub sum-le : (arguments : List ℤ) (q : ℤ) → natAbs q ≤ mostMillionths → (ts : List Term) → natAbs (total Sin arguments q ts) ≤ R * weights ts
-sum-le arguments q h ts = total-le Sin R arguments q h (λ a l. sin-range a (le-of-lt l)) ts
+sum-le arguments q h ts =
+    le-trans (total-le Sin R (λ a l. sin-range a (le-of-lt l)) arguments q ts) (mul-le-mul-left R (amplitudes-weights ts q h))

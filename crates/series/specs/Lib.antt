@@ -3,3 +3,4 @@ pub mod Sum
 pub mod Notation
 pub mod Rows
 pub mod Sizes
+pub mod Compared

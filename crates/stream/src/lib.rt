@@ -20,10 +20,10 @@ ghost use Rattle.stream.specs.Feeding.{keptLength, held, lastReply, Feed
 // The bytes that are kept of an unfinished line: one more than the longest line has that is not malformed.
 const KEPT: usize = 260;
 
-// The bytes that are read at once, and room for the answers to them: each byte ends one line at most, whose answer and newline take at most 96.
+// The bytes that are read at once, and room for the answers to them: each byte ends one line at most, whose answer and newline take at most 107.
 const CHUNK: usize = 4_096;
 
-const OUTPUT: usize = 393_216;
+const OUTPUT: usize = 438_272;
 
 // The unfinished line: the first `len` bytes of the array.
 pub struct Kept {

@@ -1,27 +1,31 @@
 -- The full edition is the short one and what stands in `further`: the two sums add up to its sum, exactly, with any function for the sine. And what both
--- editions share names the first eleven arguments alone, so that four more behind them change nothing. Then what the numbers 1 and 2 stand for.
+-- editions share names the first eleven arguments alone, so that four more behind them change nothing. Then what the numbers 1 and 2 stand for, and the
+-- longitude of an edition by the arguments that both share.
 use mathlib.Core.Path.{_≡_, refl, sym, ap, _∙_}
-use mathlib.Core.Bool.{true, false, decide-iff}
+use mathlib.Core.Bool.{Bool, true, false, cond, decide-iff}
 use mathlib.Core.List.{List, _++_}
 use Prim.Native.Nat.{ℕ}
 use native.Mathlib.Omega.{arith}
-use lib.IntN.{ℤ, pos, natAbs, ℤ-discrete, _+ℤ_}
+use lib.IntN.{ℤ, pos, natAbs, ℤ-discrete, _+ℤ_, _-ℤ_}
 use Rattle.exact.specs.Decimal.{plus, minus, arcSeconds}
+use Rattle.exact.specs.Division.{nearestDiv}
+use Rattle.exact.specs.Reduction.{reduced}
 use Rattle.exact.proofs.Choice.{not-decided}
 use Rattle.exact.proofs.Differences.{split, zs}
+use Rattle.sine_table.specs.Table.{R}
 use Rattle.sine.specs.Sine.{Sin}
 use Rattle.epoch.specs.declared.Epoch.{Epoch}
 use Rattle.arguments.specs.Argument.{argumentsBy}
 use Rattle.arguments.specs.PrintedArguments.{P1, P2, P3, P4, rows, furtherRows, argumentsOf, fullArgumentsOf}
 use Rattle.series.specs.Term.{Term, value}
-use Rattle.series.specs.Sum.{total}
+use Rattle.series.specs.Sum.{total, tableSum}
 use Rattle.series.specs.Notation.{term, sine, added, none}
 use Rattle.series.proofs.Sums.{total-append, value-apart}
 use Rattle.series.proofs.Front.{total-front, table-sum-front}
 use Rattle.frame.specs.Nutation.{dpsi, dpsiTerms}
 use Rattle.sun.specs.Series.{centre, longPeriod, moon, venus, shortTerms, fullLongPeriod, planets, fullTerms, further}
 use Rattle.sun.specs.Editions.{isShort}
-use Rattle.sun.specs.Longitude.{longitudeBy, polynomialBy, apparentLongitude, polynomialLongitude}
+use Rattle.sun.specs.Longitude.{meanLongitude, firstSum, longitudeBy, polynomialBy, apparentLongitude, polynomialLongitude}
 
 module _ (f : ℕ → ℤ) (arguments : List ℤ) (q : ℤ) where
   -- v1 to v4 are the long period terms, w the part of the second that varies
@@ -103,8 +107,11 @@ module _ (e : Epoch) (q : ℤ) where
 is-short : isShort (pos 1) ≡ true
 is-short = decide-iff (ℤ-discrete (pos 1) (pos 1)) .1 refl
 
+pub full-is-not-short : pos 2 ≡ pos 1 → ⊥
+full-is-not-short e = let h : natAbs (pos 2) ≡ natAbs (pos 1) = ap natAbs e in omega arith
+
 is-full : isShort (pos 2) ≡ false
-is-full = not-decided (ℤ-discrete (pos 2) (pos 1)) (λ e. let h : 2 ≡ 1 = ap natAbs e in omega arith)
+is-full = not-decided (ℤ-discrete (pos 2) (pos 1)) full-is-not-short
 
 module _ (aberration : ℤ) (e : Epoch) where
   pub short-longitudes : (apparentLongitude (pos 1) aberration e ≡ longitudeBy shortTerms aberration (argumentsOf e) (e .q))
@@ -116,3 +123,29 @@ module _ (aberration : ℤ) (e : Epoch) where
       × (polynomialLongitude (pos 2) aberration e ≡ polynomialBy fullTerms aberration (fullArgumentsOf e) (e .q))
   unfolding apparentLongitude polynomialLongitude
   full-longitudes = rw is-full (refl, refl)
+
+-- ---- the first sum of an edition
+module _ (edition : ℤ) (e : Epoch) (z : ℤ) where
+  pub short-first-sum : edition ≡ pos 1 → z ≡ total Sin (argumentsOf e) (e .q) shortTerms → nearestDiv z R ≡ firstSum edition e
+  unfolding firstSum tableSum
+  short-first-sum h i = rw (decide-iff (ℤ-discrete edition (pos 1)) .1 h) (ap (λ (z : ℤ). nearestDiv z R) i)
+
+  pub full-first-sum : (edition ≡ pos 1 → ⊥) → z ≡ total Sin (fullArgumentsOf e) (e .q) fullTerms → nearestDiv z R ≡ firstSum edition e
+  unfolding firstSum tableSum
+  full-first-sum h i = rw (not-decided (ℤ-discrete edition (pos 1)) h) (ap (λ (z : ℤ). nearestDiv z R) i)
+
+-- ---- its longitude, by the arguments that both share
+pub full-mean : (e : Epoch) → meanLongitude (fullArgumentsOf e) ≡ meanLongitude (argumentsOf e)
+unfolding fullArgumentsOf argumentsOf rows
+full-mean e = refl
+
+pub longitude-is : (edition k : ℤ) (e : Epoch)
+    → reduced (meanLongitude (argumentsOf e) +ℤ firstSum edition e +ℤ dpsi (argumentsOf e) (e .q) -ℤ k)
+    ≡ apparentLongitude edition k e
+unfolding apparentLongitude longitudeBy firstSum
+longitude-is edition k e = by (isShort edition)
+  where
+    by : (b : Bool) → let l = cond b (argumentsOf e) (fullArgumentsOf e) in let f = tableSum l (e .q) (cond b shortTerms fullTerms) in
+        reduced (meanLongitude (argumentsOf e) +ℤ f +ℤ dpsi (argumentsOf e) (e .q) -ℤ k) ≡ reduced (meanLongitude l +ℤ f +ℤ dpsi l (e .q) -ℤ k)
+    by true = refl
+    by false = rw (full-mean e, full-dpsi e (e .q)) refl

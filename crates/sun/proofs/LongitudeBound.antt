@@ -3,14 +3,14 @@
 -- short edition follows by computation from the lists of terms and the sine's tolerance: the law gives 3 units for the first sum and 1 for Δψ, and so 4
 -- and nothing less. Another list of terms, or another table, changes the figure here and no proof. No bound below 2 holds:
 -- `two-apart` (crate worked_longitudes) is the instant that comes as near to the bound as any known, 1994-03-22 13:19:32.701 with DUT1 and ΔT 0.
-use mathlib.Core.Path.{_≡_}
+use mathlib.Core.Path.{_≡_, subst⁻¹, _∙_}
 use mathlib.Core.Bool.{Bool, true, false, cond}
 use mathlib.Core.List.{List}
-use Prim.Native.Nat.{ℕ, _+_, _*_, _≤_}
+use Prim.Native.Nat.{ℕ, _+_, _*_, _≤_, _<_}
 use native.Mathlib.Nat.{le-trans, mul-le-mul-right}
 use lib.Dec.{lit≤}
-use lib.IntN.{ℤ, natAbs}
-use Rattle.exact.specs.Reduction.{shortWay}
+use lib.IntN.{ℤ, natAbs, _+ℤ_, _-ℤ_}
+use Rattle.exact.specs.Reduction.{turn, reduced, shortWay}
 use Rattle.exact.specs.Division.{floorDiv, nearestDiv}
 use Rattle.secular.specs.Sizes.{mostMillionths, most}
 use Rattle.sine_table.specs.Table.{R}
@@ -26,11 +26,12 @@ use Rattle.arguments.specs.PrintedArguments.{argumentsOf, fullArgumentsOf}
 use Rattle.series.specs.Term.{Term}
 use Rattle.series.specs.Sum.{amplitudes, weights}
 use Rattle.series.proofs.Sums.{amplitudes-weights}
-use Rattle.frame.specs.Nutation.{dpsiTerms}
+use Rattle.frame.specs.Nutation.{dpsi, dpsiTerms}
 use Rattle.sun.specs.Series.{shortTerms, fullTerms}
 use Rattle.sun.specs.Editions.{isShort}
 use Rattle.sun.specs.Tolerance.{upward, boundOf, longitudeTolerance}
-use Rattle.sun.specs.Longitude.{longitudeBy, polynomialBy, apparentLongitude, polynomialLongitude}
+use Rattle.sun.specs.Longitude.{meanLongitude, firstSum, longitudeBy, polynomialBy, apparentLongitude, polynomialLongitude, IsLongitude}
+use Rattle.sun.proofs.Editions.{longitude-is}
 use Rattle.sun.proofs.EditionBound.{apart, upward-holds, within-bound}
 
 -- the whole units that a list's weights and the sine's tolerance come to, rounded up
@@ -61,6 +62,17 @@ longitude-within-tolerance edition aberration e h = by (isShort edition)
         shortWay (longitudeBy ts aberration a (e .q)) (polynomialBy ts aberration a (e .q)) ≤ cond b 4 (boundOf fullTerms)
     by true = le-trans (within-figures shortTerms aberration (argumentsOf e) (e .q) (q-size h)) figures
     by false = within-bound fullTerms aberration (fullArgumentsOf e) (e .q) (q-range h)
+
+-- so that a number that is the longitude by the arguments that both share is all that is owed of it
+pub is-longitude : (edition k : ℤ) (e : Epoch) (r : ℕ) → InSpan e → r ≡ reduced (meanLongitude (argumentsOf e) +ℤ firstSum edition e +ℤ dpsi (argumentsOf e) (e .q) -ℤ k)
+    → r < turn → IsLongitude edition k e r
+is-longitude edition k e r h i l =
+    let is = i ∙ longitude-is edition k e in
+    record {
+      value = is;
+      range = l;
+      near = subst⁻¹ (λ (r : ℕ). shortWay r (polynomialLongitude edition k e) ≤ longitudeTolerance edition) is (longitude-within-tolerance edition k e h);
+    }
 
 -- the theorem, for every accepted instant, at its epoch of ephemeris time, N with ΔT, any edition and any aberration
 pub accepted-longitude-within-tolerance : (edition aberration : ℤ) (t : CivilTime) (es : Epochs) → instantOf t ≡ accepted es

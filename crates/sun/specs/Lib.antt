@@ -3,3 +3,4 @@ pub mod Editions
 pub mod Tolerance
 pub mod Longitude
 pub mod Direction
+pub mod ShortCost

@@ -13,6 +13,8 @@ use arguments::P2;
 use arguments::P3;
 use arguments::P4;
 use arguments::SATURN;
+use secular::Polynomial;
+use secular::SQUARE;
 
 // The constant of aberration, in units: 20.496″.
 pub const ABERRATION: i64 = 204_960;
@@ -102,3 +104,13 @@ pub const FURTHER_ROWS: [[i64; 5]; 24] = [
     [1_080, 10_461_600_000 + Q, -2, 2, 0], // 0.108″, 290.600° − 2 Saturn + 2Ms
     [1_120, 10_569_600_000 + Q, -2, 1, 0], // 0.112″, 293.600° − 2 Saturn + Ms
 ];
+
+// What the short edition leaves out: the amplitudes of that table together, and what varies of 1.882″ − 0.016″ T.
+pub const DROPPED_STEADY: u64 = 227_570;
+
+pub const DROPPED_VARYING: Polynomial = Polynomial {
+    c0: 0,
+    c1: -160,
+    c2: 0,
+    divisor: SQUARE,
+};

@@ -1,2 +1,3 @@
 pub mod FarthestKnown
+pub mod EditionsFarthest
 mod WorkedLongitude

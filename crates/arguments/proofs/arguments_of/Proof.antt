@@ -1,10 +1,12 @@
 -- The stored rows are the printed ones in whole units, which antt computes.
 use mathlib.Core.Path.{refl, subst⁻¹}
+use mathlib.Core.List.{map}
 use borrow.Author.Needs.{needs}
 use Rattle.exact.specs.Division.{floorDiv, nearestDiv}
+use Rattle.exact.specs.Reduction.{rest}
 use Rattle.arguments.specs.PrintedArguments.{rows, argumentsOf}
 use Rattle.arguments.specs.Sizes.{IsArguments}
-use Rattle.arguments.proofs.Sizes.{rows-sized}
+use Rattle.arguments.proofs.Sizes.{stored, rows-sized}
 use Rattle.arguments.proofs.AllReduced.{are-arguments}
 use Rattle.arguments.proofs.arguments_of.Statement.{statement}
 use Rattle.arguments.proofs.arguments_of.Tie as tie
@@ -16,8 +18,8 @@ slice-aggregate-fill-2 : tie.Need-slice-aggregate-fill-2
 slice-aggregate-fill-2 c = search needs
 
 fill-requires : tie.Need-fill-requires
-unfolding rows nearestDiv floorDiv
-fill-requires c κs = (refl, rows-sized rows tt, c .before .before .pre)
+unfolding rows rest nearestDiv floorDiv
+fill-requires c κs = (refl, rows-sized (map stored rows) tt, c .before .before .pre)
 
 returns : tie.Need-returns
 unfolding rows argumentsOf nearestDiv floorDiv

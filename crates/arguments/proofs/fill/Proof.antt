@@ -8,7 +8,7 @@ use lib.ListN.{length, getD, set, length-set}
 use mir.Facts.{toZ-ofZ}
 use mir.Syntax.{w64}
 use mir.Val.{SFits, toZ}
-use Rattle.arguments.specs.Argument.{argument}
+use Rattle.arguments.specs.Argument.{argument, coefficients}
 use Rattle.arguments.proofs.Filling.{Filled, filled-none, filled-more, filled-all}
 use Rattle.arguments.proofs.fill.Statement.{statement}
 use Rattle.arguments.proofs.fill.Tie as tie
@@ -47,7 +47,7 @@ module _ (c : tie.After-argument Inv-loop μ-loop) where
   angle-fits : SFits w64 (pos (c .argument .result))
   angle-fits = record { sfits = omega (arith, c .argument .ensures .1) }
 
-  angle-is : toZ w64 (c .argument .result) ≡ pos (argument (getD rows (loop .loop .i) []) (loop .before .args .e))
+  angle-is : toZ w64 (c .argument .result) ≡ pos (argument (coefficients (getD rows (loop .loop .i) [])) (loop .before .args .e))
   angle-is = toZ-ofZ angle-fits ∙ ap pos (c .argument .ensures .0)
 
 cast-angles : tie.Need-cast-angles Inv-loop μ-loop

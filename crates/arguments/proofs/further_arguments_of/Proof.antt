@@ -1,9 +1,11 @@
 -- The stored rows are the printed ones in whole units, which antt computes.
 use mathlib.Core.Path.{refl}
+use mathlib.Core.List.{map}
 use borrow.Author.Needs.{needs}
 use Rattle.exact.specs.Division.{floorDiv, nearestDiv}
+use Rattle.exact.specs.Reduction.{rest}
 use Rattle.arguments.specs.PrintedArguments.{furtherRows}
-use Rattle.arguments.proofs.Sizes.{rows-sized}
+use Rattle.arguments.proofs.Sizes.{stored, rows-sized}
 use Rattle.arguments.proofs.further_arguments_of.Statement.{statement}
 use Rattle.arguments.proofs.further_arguments_of.Tie as tie
 
@@ -14,8 +16,8 @@ slice-aggregate-fill-2 : tie.Need-slice-aggregate-fill-2
 slice-aggregate-fill-2 c = search needs
 
 fill-requires : tie.Need-fill-requires
-unfolding furtherRows nearestDiv floorDiv
-fill-requires c κs = (refl, rows-sized furtherRows tt, c .before .before .pre)
+unfolding furtherRows rest nearestDiv floorDiv
+fill-requires c κs = (refl, rows-sized (map stored furtherRows) tt, c .before .before .pre)
 
 returns : tie.Need-returns
 unfolding furtherRows nearestDiv floorDiv

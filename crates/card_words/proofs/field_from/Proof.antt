@@ -3,7 +3,8 @@ use mathlib.Core.Bool.{true, false}
 use lib.IntN.{ℤ, pos}
 use mir.Facts.{toZ-ofZ}
 use borrow.Author.Needs.{needs}
-use Rattle.card_words.specs.Words.{same, fieldFrom}
+use Rattle.exact.specs.Range.{same}
+use Rattle.card_words.specs.Words.{fieldFrom}
 use Rattle.card.specs.declared.Field.the-variants.{Empty, Heard, Read, Confirmed}
 use Rattle.card_words.proofs.field_from.Statement.{statement}
 use Rattle.card_words.proofs.field_from.Tie as tie

@@ -3,9 +3,9 @@ use mathlib.Core.Bool.{true, false, _&&_}
 use lib.IntN.{ℤ, pos}
 use mir.Facts.{toZ-ofZ}
 use borrow.Author.Needs.{needs}
-use Rattle.exact.specs.Range.{between}
+use Rattle.exact.specs.Range.{between, same}
 use Rattle.card.specs.Calls.{canBeHeard}
-use Rattle.card_words.specs.Words.{same, isFieldWords}
+use Rattle.card_words.specs.Words.{isFieldWords}
 use Rattle.card_words.proofs.is_field_words.Statement.{statement}
 use Rattle.card_words.proofs.is_field_words.Tie as tie
 

@@ -3,8 +3,9 @@ use mathlib.Core.Bool.{true, false, _&&_}
 use lib.IntN.{ℤ, pos}
 use mir.Facts.{toZ-ofZ}
 use borrow.Author.Needs.{needs}
+use Rattle.exact.specs.Range.{same}
 use Rattle.card.specs.Fields.{isField}
-use Rattle.card_words.specs.Words.{same, isFieldWords, isLatestWords}
+use Rattle.card_words.specs.Words.{isFieldWords, isLatestWords}
 use Rattle.card_words.proofs.is_latest_words.Statement.{statement}
 use Rattle.card_words.proofs.is_latest_words.Tie as tie
 

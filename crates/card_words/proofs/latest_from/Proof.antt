@@ -3,7 +3,8 @@ use mathlib.Core.Bool.{true, false}
 use lib.IntN.{ℤ, pos}
 use mir.Facts.{toZ-ofZ}
 use borrow.Author.Needs.{needs}
-use Rattle.card_words.specs.Words.{same, fieldFrom, latestFrom}
+use Rattle.exact.specs.Range.{same}
+use Rattle.card_words.specs.Words.{fieldFrom, latestFrom}
 use Rattle.card.specs.declared.Latest.the-variants.{NothingToUndo, Before}
 use Rattle.card_words.proofs.latest_from.Statement.{statement}
 use Rattle.card_words.proofs.latest_from.Tie as tie

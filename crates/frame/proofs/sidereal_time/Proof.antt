@@ -4,6 +4,7 @@ use Prim.Native.Nat.{ℕ, _≤_, _<_, _^_}
 use native.Mathlib.Omega.{arith}
 use lib.Dec.{lit<, lit≤}
 use lib.IntN.{ℤ, pos, natAbs, _+ℤ_, _*ℤ_}
+use lib.Signed.{leZ-yes}
 use mir.Facts.{toZ-ofZ}
 use mir.Syntax.{w64}
 use mir.Val.{SFits}
@@ -89,7 +90,7 @@ module _ (c : tie.After-equinoxes) where
 
 -- ---- the needs
 argument-requires : tie.Need-argument-requires
-argument-requires c κs = (record { c0 = lit≤ tt; c1 = lit< tt; c2 = lit≤ tt }, c .pre .1)
+argument-requires c κs = (record { c0 = lit≤ tt; whole = lit≤ tt; natural = leZ-yes tt; rest = lit< tt; c2 = lit≤ tt }, c .pre .1)
 
 cast-excess : tie.Need-cast-excess
 cast-excess c = search needs

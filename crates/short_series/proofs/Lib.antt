@@ -1,0 +1,2 @@
+-- The theorems of the short series.
+pub mod ShortSeriesCosts
