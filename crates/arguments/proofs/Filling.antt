@@ -8,7 +8,8 @@ use lib.IntN.{ℤ, pos}
 use lib.ListN.{length, getD, set, drop, drop-of-length-le, length-map}
 use lib.Seq.{sets, sets-eq, drop-cons}
 use Rattle.epoch.specs.declared.Epoch.{Epoch}
-use Rattle.arguments.specs.Argument.{argument, coefficients, argumentsBy}
+use Rattle.arguments.specs.Argument.{argument, argumentsBy}
+use Rattle.arguments.specs.Rows.{coefficients}
 
 -- as many numbers as a list has, stored from its start on
 whole : (a b : List ℤ) → length a ≡ length b → sets a 0 b ≡ b

@@ -1,5 +1,5 @@
 -- Document 01, "Time" (RULES.md, "Time", argument): the angle that three coefficients give at an epoch.
-use mathlib.Core.List.{List, [], _∷_, map}
+use mathlib.Core.List.{List, map}
 use Prim.Native.Nat.{ℕ, _^_}
 use lib.IntN.{ℤ, pos, _+ℤ_, _*ℤ_}
 use Rattle.exact.specs.Reduction.{reduced}
@@ -12,10 +12,6 @@ use Rattle.epoch.specs.declared.Epoch.{Epoch}
 -- c1 goes with N itself, c0 and c2 are a floored polynomial in q; the sum is reduced
 unfoldable pub argument : List ℤ → Epoch → ℕ
 argument row e = reduced (floorDiv (nth row 1 *ℤ e .n) century +ℤ value (polynomial (nth row 0) (pos 0) (nth row 2) (10 ^ 12)) (e .q))
-
--- the coefficients of a row as it is stored, with c1 in two parts: how many times it holds C, and the rest
-abbrev pub coefficients : List ℤ → List ℤ
-coefficients row = nth row 0 ∷ (pos century *ℤ nth row 1 +ℤ nth row 2) ∷ nth row 3 ∷ []
 
 -- of each row of a table, held as signed numbers so that multiples of them can be taken
 abbrev pub argumentsBy : List (List ℤ) → Epoch → List ℤ

@@ -1,3 +1,4 @@
 pub mod Argument
 pub mod PrintedArguments
+pub mod Rows
 pub mod Sizes

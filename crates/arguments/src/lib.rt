@@ -26,8 +26,9 @@ ghost use Prim.Native.Nat.{_<_};
 ghost use lib.ListN.{length};
 ghost use Rattle.exact.specs.Reduction.{turn};
 ghost use Rattle.epoch.specs.Sizes.{InSpan};
-ghost use Rattle.arguments.specs.Argument.{argument, coefficients, argumentsBy};
+ghost use Rattle.arguments.specs.Argument.{argument, argumentsBy};
 ghost use Rattle.arguments.specs.PrintedArguments.{furtherRows, argumentsOf, fullArgumentsOf};
+ghost use Rattle.arguments.specs.Rows.{coefficients};
 ghost use Rattle.arguments.specs.Sizes.{RowSized, RowsSized, IsArguments, IsFullArguments};
 
 // The angle of a stored row at an epoch.

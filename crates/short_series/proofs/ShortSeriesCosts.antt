@@ -19,14 +19,14 @@ use Rattle.sun.specs.Longitude.{aberration}
 use Rattle.sun.proofs.ShortCost.{short-costs, short-cost-le, short-cost-last}
 use Rattle.short_series.specs.Editions.{EditionsValues, refused, comparedAt, editions}
 
-abbrev Within : EditionsValues → Type 0
-Within v = v .apart ≤ v .bound
+abbrev Bounded : EditionsValues → Type 0
+Bounded v = v .apart ≤ v .bound
 
-pub apart-within-bound : (t : CivilTime) → Within (editions t)
+pub apart-within-bound : (t : CivilTime) → Bounded (editions t)
 unfolding editions comparedAt
 apart-within-bound t =
     let e = instantEpochs t .ephemeris in
-    holds-decided Within (instantTests t) (comparedAt e) refused (short-costs aberration e) (lit≤ tt, (lit≤ tt, (lit≤ tt, (lit≤ tt, tt))))
+    holds-decided Bounded (instantTests t) (comparedAt e) refused (short-costs aberration e) (lit≤ tt, (lit≤ tt, (lit≤ tt, (lit≤ tt, tt))))
 
 abbrev Small : EditionsValues → Type 0
 Small v = v .bound ≤ 227_810

@@ -20,7 +20,7 @@ ghost use Rattle.arguments.specs.PrintedArguments.{argumentsOf, fullArgumentsOf
 ghost use Rattle.arguments.specs.Sizes.{IsArguments};
 ghost use Rattle.series.specs.Sum.{total};
 ghost use Rattle.frame.specs.Nutation as Nutation;
-ghost use Rattle.sun.specs.Series.{centre, periodic, shortTerms, further};
+ghost use Rattle.sun.specs.Series.{centre, periodic, shortTerms, further, fullTerms};
 ghost use Rattle.sun.specs.Longitude.{meanLongitude, firstSum, equationOfCentre, centreLongitude, IsLongitude};
 ghost use Rattle.sun.specs.ShortCost.{shortCost};
 ghost use Rattle.sun.specs.Direction.{direction};
@@ -99,6 +99,14 @@ fn further_sum(t: &SineTable, arguments: &[i64; arguments::COUNT], e: Epoch) -> 
     )
 }
 
+// The exact sum of the terms of the full edition, from that of the short one.
+fn full_sum(t: &SineTable, short: i64, arguments: &[i64; arguments::COUNT], e: Epoch) -> i64
+    requires { ⌜ ((now t ≡ entries) × (now arguments ≡ argumentsOf e) × InSpan e) × ((short ≡ total Sin (argumentsOf e) (e .q) shortTerms) × (natAbs short ≤ R * 2 ^ 28)) ⌝ }
+    ensures { λ r. ⌜ (r ≡ total Sin (fullArgumentsOf e) (e .q) fullTerms) × (natAbs r ≤ R * 2 ^ 29) ⌝ }
+{
+    short + further_sum(t, arguments, e)
+}
+
 // Document 01's first sum, by an edition at an epoch, in units: all its terms are rounded together.
 fn first_sum(t: &SineTable, edition: i64, arguments: &[i64; arguments::COUNT], e: Epoch) -> i64
     requires { ⌜ (now t ≡ entries) × (now arguments ≡ argumentsOf e) × InSpan e ⌝ }
@@ -108,7 +116,7 @@ fn first_sum(t: &SineTable, edition: i64, arguments: &[i64; arguments::COUNT], e
     if edition == 1 {
         return series::rounded(short);
     }
-    series::rounded(short + further_sum(t, arguments, e))
+    series::rounded(full_sum(t, short, arguments, e))
 }
 
 // The longitude of a first sum, reduced, from the arguments of the epoch, Δψ and the aberration, in units.
@@ -157,7 +165,7 @@ pub fn both_longitudes(
     ensures { λ r. ⌜ IsLongitude (pos 1) aberration e (r .short) × IsLongitude (pos 2) aberration e (r .full) ⌝ }
 {
     let short = short_sum(t, arguments, e);
-    let full = short + further_sum(t, arguments, e);
+    let full = full_sum(t, short, arguments, e);
     Longitudes {
         short: longitude_by(series::rounded(short), arguments, dpsi, aberration),
         full: longitude_by(series::rounded(full), arguments, dpsi, aberration),

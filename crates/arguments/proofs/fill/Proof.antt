@@ -8,7 +8,8 @@ use lib.ListN.{length, getD, set, length-set}
 use mir.Facts.{toZ-ofZ}
 use mir.Syntax.{w64}
 use mir.Val.{SFits, toZ}
-use Rattle.arguments.specs.Argument.{argument, coefficients}
+use Rattle.arguments.specs.Argument.{argument}
+use Rattle.arguments.specs.Rows.{coefficients}
 use Rattle.arguments.proofs.Filling.{Filled, filled-none, filled-more, filled-all}
 use Rattle.arguments.proofs.fill.Statement.{statement}
 use Rattle.arguments.proofs.fill.Tie as tie

@@ -1,7 +1,7 @@
 -- The terms that both editions share are summed once; each sum is rounded once, and each longitude is that of its edition.
-use mathlib.Core.Path.{_≡_, refl, sym, ap, ap₂, subst⁻¹, _∙_}
+use mathlib.Core.Path.{_≡_, refl, ap, ap₂, subst⁻¹, _∙_}
 use mathlib.Core.List.{List}
-use Prim.Native.Nat.{ℕ, _+_, _*_, _≤_, _<_, _^_}
+use Prim.Native.Nat.{ℕ, _+_, _≤_, _<_, _^_}
 use native.Mathlib.Omega.{arith}
 use lib.IntN.{ℤ, pos, natAbs, _+ℤ_, _-ℤ_}
 use mir.Facts.{toZ-ofZ}
@@ -12,42 +12,25 @@ use Rattle.exact.specs.Division.{nearestDiv}
 use Rattle.exact.specs.Reduction.{turn, reduced}
 use Rattle.exact.proofs.Machine.{ok-fits}
 use Rattle.sine_table.specs.Table.{R}
-use Rattle.sine.specs.Sine.{Sin}
-use Rattle.arguments.specs.PrintedArguments.{fullArgumentsOf}
 use Rattle.arguments.specs.Sizes.{IsArguments}
 use Rattle.arguments.proofs.AllReduced.{are-arguments}
-use Rattle.series.specs.Sum.{total}
 use Rattle.frame.specs.Nutation.{dpsi}
-use Rattle.sun.specs.Series.{fullTerms}
 use Rattle.sun.specs.Longitude.{meanLongitude, firstSum, IsLongitude}
 use Rattle.sun.proofs.Editions.{full-sum, full-is-not-short, short-first-sum, full-first-sum}
-use Rattle.sun.proofs.ExactSums.{two-fit}
 use Rattle.sun.proofs.LongitudeBound.{is-longitude}
 use Rattle.sun.proofs.both_longitudes.Statement.{statement}
 use Rattle.sun.proofs.both_longitudes.Tie as tie
 
 -- ---- the two sums
-module _ (c : tie.After-further-sum) where
+module _ (c : tie.After-full-sum) where
   abbrev shared : tie.After-short-sum
   shared = c .before
 
   abbrev start : tie.Start
   start = shared .before
 
-  abbrev short : ℤ
-  short = shared .short-sum .result
-
-  abbrev further : ℤ
-  further = c .further-sum .result
-
-  fit : SFits w64 short × SFits w64 further
-  fit = (ok-fits short (shared .short-sum .ok), ok-fits further (c .further-sum .ok))
-
-  all : SFits w64 (short +ℤ further) × (natAbs (short +ℤ further) ≤ R * (2 ^ 28 + 2 ^ 27))
-  all = two-fit short further (2 ^ 28) (2 ^ 27) (shared .short-sum .ensures .1) (c .further-sum .ensures .1) (omega arith) (omega arith)
-
-  all-is : short +ℤ further ≡ total Sin (fullArgumentsOf (start .args .e)) (start .args .e .q) fullTerms
-  all-is = ap₂ _+ℤ_ (shared .short-sum .ensures .0) (c .further-sum .ensures .0) ∙ sym (full-sum (start .args .e) (start .args .e .q))
+  fit : SFits w64 (shared .short-sum .result) × SFits w64 (c .full-sum .result)
+  fit = (ok-fits (shared .short-sum .result) (shared .short-sum .ok), ok-fits (c .full-sum .result) (c .full-sum .ok))
 
 -- ---- the longitude of an edition whose sum is rounded
 module _ (s : tie.Start) where
@@ -70,18 +53,15 @@ module _ (s : tie.Start) where
 short-sum-requires : tie.Need-short-sum-requires
 short-sum-requires c κs = search needs
 
-further-sum-requires : tie.Need-further-sum-requires
-further-sum-requires c κs = search needs
-
-add-full : tie.Need-add-full
-add-full c = simp (toZ-ofZ, fit c .0, fit c .1) (all c .0)
+full-sum-requires : tie.Need-full-sum-requires
+full-sum-requires c κs = simp (toZ-ofZ, ok-fits (c .short-sum .result) (c .short-sum .ok)) (c .before .pre .0, c .short-sum .ensures)
 
 -- ---- the short edition
 rounded-requires : tie.Need-rounded-requires
 rounded-requires c κs = simp (toZ-ofZ, fit c .0) (omega (arith, shared c .short-sum .ensures .1))
 
 module _ (c : tie.After-rounded) where
-  abbrev summed : tie.After-further-sum
+  abbrev summed : tie.After-full-sum
   summed = c .before
 
   abbrev sum : ℤ
@@ -90,7 +70,7 @@ module _ (c : tie.After-rounded) where
   sum-fits : SFits w64 sum
   sum-fits = ok-fits sum (c .rounded .ok)
 
-  sum-is : (sum ≡ nearestDiv (short summed) R) × (natAbs sum ≤ 2 ^ 29)
+  sum-is : (sum ≡ nearestDiv (shared summed .short-sum .result) R) × (natAbs sum ≤ 2 ^ 29)
   sum-is =
       let r = simp (toZ-ofZ, fit summed .0) at (c .rounded .ensures) in
       (r .0, r .1 (2 ^ 29) (omega (arith, shared summed .short-sum .ensures .1)))
@@ -106,16 +86,18 @@ short-is c =
     let f = summed r in
     let s = start f in
     edition-is s (pos 1) (sum r) (c .longitude-by .result)
-    (sum-is r .0 ∙ short-first-sum (pos 1) (s .args .e) (short f) refl (shared f .short-sum .ensures .0))
+    (sum-is r .0 ∙ short-first-sum (pos 1) (s .args .e) (shared f .short-sum .result) refl (shared f .short-sum .ensures .0))
     (simp (toZ-ofZ, sum-fits r, s .fits .dpsi, s .fits .aberration) at (c .longitude-by .ensures .0))
     (c .longitude-by .ensures .1)
 
 -- ---- the full one
 rounded-requires-2 : tie.Need-rounded-requires-2
-rounded-requires-2 c κs = let f = c .before .before in simp (toZ-ofZ, fit f .0, fit f .1, all f .0) (omega (arith, all f .1))
+rounded-requires-2 c κs =
+    let f = c .before .before in
+    simp (toZ-ofZ, fit f .0, fit f .1) (omega (arith, shared f .short-sum .ensures .1, f .full-sum .ensures .1))
 
 module _ (c : tie.After-rounded2) where
-  abbrev both : tie.After-further-sum
+  abbrev both : tie.After-full-sum
   both = c .before .before .before
 
   abbrev full : ℤ
@@ -124,10 +106,10 @@ module _ (c : tie.After-rounded2) where
   full-fits : SFits w64 full
   full-fits = ok-fits full (c .rounded2 .ok)
 
-  full-is : (full ≡ nearestDiv (short both +ℤ further both) R) × (natAbs full ≤ 2 ^ 29)
+  full-is : (full ≡ nearestDiv (both .full-sum .result) R) × (natAbs full ≤ 2 ^ 29)
   full-is =
-      let r = simp (toZ-ofZ, fit both .0, fit both .1, all both .0) at (c .rounded2 .ensures) in
-      (r .0, r .1 (2 ^ 29) (omega (arith, all both .1)))
+      let r = simp (toZ-ofZ, fit both .0, fit both .1) at (c .rounded2 .ensures) in
+      (r .0, r .1 (2 ^ 29) (both .full-sum .ensures .1))
 
 longitude-by-requires-2 : tie.Need-longitude-by-requires-2
 longitude-by-requires-2 c κs =
@@ -141,7 +123,7 @@ returns c =
     let s = start f in
     let is =
     edition-is s (pos 2) (full r) (c .longitude-by2 .result)
-    (full-is r .0 ∙ full-first-sum (pos 2) (s .args .e) (short f +ℤ further f) full-is-not-short (all-is f))
+    (full-is r .0 ∙ full-first-sum (pos 2) (s .args .e) (f .full-sum .result) full-is-not-short (f .full-sum .ensures .0))
     (simp (toZ-ofZ, full-fits r, s .fits .dpsi, s .fits .aberration) at (c .longitude-by2 .ensures .0))
     (c .longitude-by2 .ensures .1) in
     (short-is (r .before), is)
@@ -149,4 +131,4 @@ returns c =
 pub both-longitudes-spec : {M : Type 1} → statement M
 both-longitudes-spec =
     tie.close
-    (tie.spec short-sum-requires further-sum-requires add-full rounded-requires longitude-by-requires rounded-requires-2 longitude-by-requires-2 returns)
+    (tie.spec short-sum-requires full-sum-requires rounded-requires longitude-by-requires rounded-requires-2 longitude-by-requires-2 returns)
