@@ -1,8 +1,7 @@
 #!/usr/bin/env python3
-"""planets.py SHOTS SHORT FULL STEADY ERFA: fits the periods of Jupiter, Mars and others and that of a year to the differences in the Sun's
-longitude of the short edition and of the full one from ERFA, to those in its hour angle of the full one, and to those in the longitude of
-the full one with a steady aberration (STEADY); and prints the size of each, in seconds of arc, to show where the differences come from,
-what the full edition takes away and what the aberration changes."""
+"""planets.py SHOTS SHORT FULL ERFA: fits the periods of Jupiter, Mars and others to the differences in the Sun's longitude of the short
+edition and of the full one from ERFA, and to those in its hour angle of the full one, and prints the size of each, in seconds of arc, to
+show where the differences come from and what the full edition takes away."""
 import datetime
 import math
 import sys
@@ -12,7 +11,6 @@ from plot import read_book, read_erfa, short_way
 HOUR_ANGLE, LONGITUDE = 2, 3  # their places in an answer
 # Mean longitudes at noon of 2000-01-01, in degrees, and their daily motions: the Sun seen from the Earth is opposite to the Earth.
 EARTH, MARS, JUPITER, SATURN = (100.46, 0.98564736), (355.43, 0.52402068), (34.35, 0.08308529), (50.08, 0.03344414)
-SUN_ANOMALY = (357.53, 0.98560028)  # mean, seen from the Earth: the perihelion is where it is 0
 PERIODS = {
     'Jupiter, E - J': ((1, EARTH), (-1, JUPITER)),
     'Jupiter, 2E - 2J': ((2, EARTH), (-2, JUPITER)),
@@ -24,6 +22,7 @@ PERIODS = {
     'Mars, 2E - 4M': ((2, EARTH), (-4, MARS)),
     'Mars, E - M': ((1, EARTH), (-1, MARS)),
     'Saturn, E - S': ((1, EARTH), (-1, SATURN)),
+    'one year': ((1, EARTH),),
 }
 
 
@@ -57,14 +56,11 @@ def fit(shots, book, erfa, place):
         if n[9] == 1:
             days.append((datetime.date(n[0], n[1], n[2]) - datetime.date(2000, 1, 1)).days + (n[3] - 12) / 24)
             values.append(short_way(b[place], e[place]))
-    angles = [*PERIODS.values(), ((1, SUN_ANOMALY),)]
-    rows = [[1, day / 36_525] + [f(angle(p, day)) for p in angles for f in (math.sin, math.cos)] for day in days]
+    rows = [[1, day / 36_525] + [f(angle(p, day)) for p in PERIODS.values() for f in (math.sin, math.cos)] for day in days]
     fitted = solve(rows, values)
     left = [v - sum(a * b for a, b in zip(fitted, row)) for v, row in zip(values, rows)]
     sizes = [(name, math.hypot(fitted[2 + 2 * i], fitted[3 + 2 * i])) for i, name in enumerate(PERIODS)]
     return sizes + [
-        ('one year, sine', fitted[-2]),
-        ('one year, cosine', fitted[-1]),
         ('constant, at 2000', fitted[0]),
         ('slope, a century', fitted[1]),
         ('root mean square', root_mean_square(values)),
@@ -74,17 +70,10 @@ def fit(shots, book, erfa, place):
 
 def main():
     shots = [[int(w) for w in line.split()] for line in open(sys.argv[1])]
-    short, full, steady = (read_book(path) for path in sys.argv[2:5])
-    erfa = read_erfa(sys.argv[5])
-    columns = {
-        'longitude, short': (short, LONGITUDE),
-        'longitude, full': (full, LONGITUDE),
-        'hour angle, full': (full, HOUR_ANGLE),
-        'longitude, steady': (steady, LONGITUDE),
-    }
-    print(f'{"seconds of arc":20}' + ''.join(f'{name:>19}' for name in columns))
-    for rows in zip(*(fit(shots, book, erfa, place) for book, place in columns.values())):
-        print(f'{rows[0][0]:20}' + ''.join(f'{size:19.2f}' for _, size in rows))
+    short, full, erfa = read_book(sys.argv[2]), read_book(sys.argv[3]), read_erfa(sys.argv[4])
+    print(f'{"seconds of arc":20}{"longitude, short":>18}{"longitude, full":>18}{"hour angle, full":>18}')
+    for rows in zip(fit(shots, short, erfa, LONGITUDE), fit(shots, full, erfa, LONGITUDE), fit(shots, full, erfa, HOUR_ANGLE)):
+        print(f'{rows[0][0]:20}' + ''.join(f'{size:18.2f}' for _, size in rows))
 
 
 main()

@@ -126,7 +126,7 @@ def main():
         drawn = list(zip(STYLES, parts[:3]))
         panels.append((titles[-1], drawn if body == 1 else drawn[:2]))
         if body == 1:
-            panels.append((f'{name}, the full edition alone: at most {figures(parts[2])[0]:.2f}″', drawn[2:]))
+            panels.append((f'{name}, the full edition alone: at most {figures(parts[2])[0]:.2g}″', drawn[2:]))
     print('\nmillimetres over 900 m', *over[2:], '', *titles, '', sep='\n')
     out = legend()
     for i, (title, drawn) in enumerate(panels):

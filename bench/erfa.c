@@ -28,20 +28,18 @@ static struct instant instant_of(const int64_t *fields)
     return t;
 }
 
-/* The Sun's apparent place: hour angle at longitude 0, declination and longitude; and its distance in
-   astronomical units, to which the Moon and the planets add their part, as they do not in the book. */
-static void sun(const struct instant *t, double *hour_angle, double *declination, double *s,
-                double *distance)
+/* The Sun's apparent place: hour angle at longitude 0, declination and longitude. */
+static void sun(const struct instant *t, double *hour_angle, double *declination, double *s)
 {
     double pvh[2][3], pvb[2][3], natural[3], proper[3], apparent[3], ecliptic[3];
-    double velocity[3], matrix[3][3], tilt[3][3], ra, latitude, psi, nutation;
+    double velocity[3], distance, matrix[3][3], tilt[3][3], ra, latitude, psi, nutation;
     eraEpv00(t->tt[0], t->tt[1], pvh, pvb);
     for (int i = 0; i < 3; i++) {
         natural[i] = -pvh[0][i];
         velocity[i] = pvb[1][i] * ERFA_AULT / ERFA_DAYSEC;
     }
-    eraPn(natural, distance, natural);
-    eraAb(natural, velocity, *distance, sqrt(1.0 - eraPdp(velocity, velocity)), proper);
+    eraPn(natural, &distance, natural);
+    eraAb(natural, velocity, distance, sqrt(1.0 - eraPdp(velocity, velocity)), proper);
     eraPnm06a(t->tt[0], t->tt[1], matrix);
     eraRxp(matrix, proper, apparent);
     eraC2s(apparent, &ra, declination);
@@ -64,21 +62,20 @@ static void polaris(const struct instant *t, double *hour_angle, double *declina
     *hour_angle = eraEra00(t->ut1[0], t->ut1[1]) - ra;
 }
 
-int64_t bench_shot(const int64_t fields[NUMBERS], int64_t values[WORDS - 1])
+int64_t bench_shot(const int64_t fields[NUMBERS], int64_t angles[WORDS - 1])
 {
     struct instant t = instant_of(fields);
-    double hour_angle, declination, azimuth, altitude, s = 0.0, distance = 0.0;
+    double hour_angle, declination, azimuth, altitude, s = 0.0;
     double latitude = (double)fields[7] * 0.1 * ERFA_DAS2R;
     if (fields[9] == 1)
-        sun(&t, &hour_angle, &declination, &s, &distance);
+        sun(&t, &hour_angle, &declination, &s);
     else
         polaris(&t, &hour_angle, &declination);
     hour_angle = eraAnp(hour_angle + (double)fields[8] * 0.1 * ERFA_DAS2R);
     eraHd2ae(hour_angle, declination, latitude, &azimuth, &altitude);
-    values[0] = (int64_t)(eraAnp(azimuth) * UNITS);
-    values[1] = (int64_t)((ERFA_DPI / 2.0 - altitude) * UNITS);
-    values[2] = (int64_t)(hour_angle * UNITS);
-    values[3] = (int64_t)(eraAnp(s) * UNITS);
-    values[4] = (int64_t)(distance * 1e9);
+    angles[0] = (int64_t)(eraAnp(azimuth) * UNITS);
+    angles[1] = (int64_t)((ERFA_DPI / 2.0 - altitude) * UNITS);
+    angles[2] = (int64_t)(hour_angle * UNITS);
+    angles[3] = (int64_t)(eraAnp(s) * UNITS);
     return 0;
 }

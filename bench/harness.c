@@ -2,7 +2,7 @@
    input, and prints what `second bench` prints.
 
    usage: PROGRAM COUNT [sun|polaris]    nanoseconds per shot
-          PROGRAM answers                the row of answers of each shot */
+          PROGRAM answers                each shot's refusal and four angles */
 #define _POSIX_C_SOURCE 199309L
 #include "harness.h"
 

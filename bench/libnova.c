@@ -28,7 +28,7 @@ static struct ln_equ_posn place(int64_t body, double jd)
     return apparent;
 }
 
-int64_t bench_shot(const int64_t fields[NUMBERS], int64_t values[WORDS - 1])
+int64_t bench_shot(const int64_t fields[NUMBERS], int64_t angles[WORDS - 1])
 {
     struct ln_date date = {(int)fields[0], (int)fields[1], (int)fields[2], (int)fields[3],
                            (int)fields[4], (double)(fields[5] + fields[6]) / 1000.0};
@@ -38,9 +38,9 @@ int64_t bench_shot(const int64_t fields[NUMBERS], int64_t values[WORDS - 1])
     double sidereal = ln_get_apparent_sidereal_time(jd);
     struct ln_hrz_posn horizon;
     ln_get_hrz_from_equ_sidereal_time(&apparent, &observer, sidereal, &horizon);
-    values[0] = units(horizon.az + 180.0);
-    values[1] = units(90.0 - horizon.alt);
-    values[2] = units(15.0 * sidereal + observer.lng - apparent.ra);
-    values[3] = values[4] = 0; /* asking for longitude and distance too would work the Sun twice */
+    angles[0] = units(horizon.az + 180.0);
+    angles[1] = units(90.0 - horizon.alt);
+    angles[2] = units(15.0 * sidereal + observer.lng - apparent.ra);
+    angles[3] = 0; /* asking for the longitude too would work the Sun twice */
     return 0;
 }

@@ -32,7 +32,6 @@ enum fieldbook_refusal {
     FIELDBOOK_NO_POSITION = 5,   /* latitude or longitude out of range */
     FIELDBOOK_NO_BODY = 6,       /* body neither 1 nor 2 */
     FIELDBOOK_NO_EDITION = 19,   /* edition neither 1 nor 2, for Polaris too */
-    FIELDBOOK_NO_LIMB = 20,      /* limb not 1 to 3; with Polaris not 1 */
     FIELDBOOK_BELOW_HORIZON = 7, /* the body is below the horizon */
     FIELDBOOK_NEAR_ZENITH = 8,   /* the body is too near the zenith for an azimuth */
     FIELDBOOK_NO_LIST = 16,      /* a list of results empty or longer than 64 */
@@ -48,16 +47,14 @@ enum fieldbook_refusal {
 };
 
 /* A shot's answer, its angles in units of 0.0001 second of arc, 0 to 12,959,999,999. Check the
-   refusal first: a refused shot has no angles and no radius vector, and what stands for them is 0. No
-   answered shot has the azimuth 0: due north is 1. */
+   refusal first: a refused shot has no angles, and what stands for them is 0. No answered shot has
+   the azimuth 0: due north is 1. */
 struct fieldbook_shot_answer {
     uint64_t refusal;         /* an enum fieldbook_refusal, 0 where the shot is answered */
     uint64_t azimuth;         /* from north, clockwise */
     uint64_t zenith_distance; /* from the zenith, without refraction */
     uint64_t hour_angle;      /* from the meridian, westward */
     uint64_t longitude;       /* the Sun's apparent longitude s; 0 for Polaris */
-    uint64_t radius_vector;   /* how far the Sun is, r, on the ellipse alone, in units of 10^-9 of its mean
-                                 distance: 983,000,000 to 1,017,000,000; 0 for Polaris */
 };
 
 enum fieldbook_body { FIELDBOOK_SUN = 1, FIELDBOOK_POLARIS = 2 };
@@ -65,15 +62,10 @@ enum fieldbook_body { FIELDBOOK_SUN = 1, FIELDBOOK_POLARIS = 2 };
 /* The editions of the Sun's series. The short one has the ellipse, the Moon, Venus and three terms of long
    period. The full one adds Mars, Jupiter and Saturn and a fourth term of long period, and lets one amplitude
    change with the date. Beside a modern theory, every five days from 1976 to 2049 and with delta_t given, the
-   Sun's longitude was off by 16.6 seconds of arc at most in the short edition, by 2.1 in the full one
+   Sun's longitude was off by 16.5 seconds of arc at most in the short edition, by 1.9 in the full one
    (docs/accuracy.md). The full one takes 1.2 times the instructions of a single shot of the Sun, 1.4 times those
    of one of many. Polaris is the same by both, at the same cost. */
 enum fieldbook_edition { FIELDBOOK_SHORT_EDITION = 1, FIELDBOOK_FULL_EDITION = 2 };
-
-/* What a pointing sights: the centre of the body, or a limb of the Sun, the left one or the right one as you
-   face it, wherever you stand. The hair of an instrument can be set on the Sun's limb, while its centre has
-   to be judged by eye. Polaris has a centre only. */
-enum fieldbook_limb { FIELDBOOK_CENTRE = 1, FIELDBOOK_LEFT_LIMB = 2, FIELDBOOK_RIGHT_LIMB = 3 };
 
 /* How a shot is to be worked, beside its numbers: the last parameter of each call that works one. Any number
    may be given for a member, and one without a meaning is refused.
@@ -84,15 +76,13 @@ enum fieldbook_limb { FIELDBOOK_CENTRE = 1, FIELDBOOK_LEFT_LIMB = 2, FIELDBOOK_R
        options.edition = FIELDBOOK_FULL_EDITION;
 
    Later versions of this header will have more members. Code that starts from the defaults is then compiled
-   again as it is, and the new members change none of its answers. A member that an initialiser of its own
-   leaves out would be 0, which is no option: every shot would be refused. */
+   again as it is, and its answers stay. A member that an initialiser of its own leaves out would be 0, which
+   is no option: every shot would be refused. */
 struct fieldbook_options {
     int64_t edition; /* an enum fieldbook_edition; by default the short one */
-    int64_t limb;    /* an enum fieldbook_limb; by default the centre. A shot answers for the centre whatever
-                        the limb, but refuses one that there is not, as a pointing does */
 };
 
-#define FIELDBOOK_DEFAULTS {FIELDBOOK_SHORT_EDITION, FIELDBOOK_CENTRE}
+#define FIELDBOOK_DEFAULTS {FIELDBOOK_SHORT_EDITION}
 
 /* The shot: where a body stands.
 
@@ -110,8 +100,7 @@ struct fieldbook_options {
                        2017, 69,184 - dut1. A whole second of it is 0.04 seconds of arc of the Sun's
                        longitude. 0 is the older rule, in which both times are one: the Sun is then
                        behind by 2 to 3 seconds of arc.
-   options             the edition of the Sun's series; and the limb, which is tested here and used by a
-                       pointing
+   options             the edition of the Sun's series
 
    Nothing compares dut1 and delta_t with the date or with each other.
 
@@ -129,7 +118,7 @@ struct fieldbook_shot_answer fieldbook_shot(int64_t year, int64_t month, int64_t
 /* How many numbers a row of many shots has, those of a shot in the order above, year to delta_t; and how many
    words its answer, those of a struct fieldbook_shot_answer. An array of these structs can be lent as the list
    of words. */
-enum { FIELDBOOK_SHOT_NUMBERS = 11, FIELDBOOK_SHOT_WORDS = 6 };
+enum { FIELDBOOK_SHOT_NUMBERS = 11, FIELDBOOK_SHOT_WORDS = 5 };
 
 /* Many shots: one after the other as fieldbook_shot answers them, a refusal of its own for each row. A single
    shot builds the table of the sine, a good third of its work; this call builds it once for all.
@@ -137,7 +126,7 @@ enum { FIELDBOOK_SHOT_NUMBERS = 11, FIELDBOOK_SHOT_WORDS = 6 };
    rows                the numbers of the shots, row after row; only read
    rows_count          how many numbers: 11 times the rows
    answers             where the words of the answers go, row after row
-   answers_count       how many words there is room for: 6 times the rows
+   answers_count       how many words there is room for: 5 times the rows
    options             one for all rows
 
    Returns how many rows were answered: as many as there are whole rows of numbers and room for whole answers.
@@ -161,37 +150,25 @@ uint64_t fieldbook_shots(const int64_t *rows, size_t rows_count, uint64_t *answe
 /* A pointing's answer. Check the refusal first: a refused pointing has no mark, and what stands for
    it is 0, which is also the azimuth of a mark due north. */
 struct fieldbook_pointing_answer {
-    uint64_t refusal; /* 2 to 8, 15, 17, 19 or 20 of enum fieldbook_refusal, 0 where the pointing is
+    uint64_t refusal; /* 2 to 8, 15, 17 or 19 of enum fieldbook_refusal, 0 where the pointing is
                          answered */
     uint64_t mark;    /* azimuth of the mark from north, clockwise, in units of 0.0001 second of arc,
                          0 to 12,959,999,999 */
 };
 
-/* The pointing: the azimuth of a reference mark, which is that of the body's centre less the horizontal
-   angle to the centre, reduced to one turn. The first eleven numbers and the options are those of the shot,
-   which is tested before the angle.
+/* The pointing: the azimuth of a reference mark, which is the body's less the horizontal angle,
+   reduced to one turn. The first eleven numbers and the options are those of the shot, which is tested
+   before the angle.
 
-   angle               horizontal angle as it was measured, clockwise from the mark to the centre, or to
-                       the limb that the options name, in units of 0.0001 second of arc, 0 to
-                       12,959,999,999
-
-   An angle to a limb is not to be corrected beforehand: the call does that. Clockwise, the left limb comes
-   before the centre and the right limb after it, so the angle to the left limb is made larger and that to the
-   right limb smaller, by the Sun's semidiameter over the sine of the zenith distance. The semidiameter is
-   0.266994 degrees at the mean distance, and grows as r gets smaller.
+   angle               horizontal angle, clockwise from the mark to the body, in units of 0.0001
+                       second of arc, 0 to 12,959,999,999
 
        struct fieldbook_options options = FIELDBOOK_DEFAULTS;
        struct fieldbook_pointing_answer a = fieldbook_pointing(
            1984, 7, 2, 14, 30, 0, 0, 1224000, -4230000, FIELDBOOK_SUN, 54184, 1234567890, options);
        if (a.refusal != FIELDBOOK_ANSWERED)
            return a.refusal;
-       set_out(a.mark);
-
-   The same mark a minute later, with the angle to the Sun's left limb:
-
-       options.limb = FIELDBOOK_LEFT_LIMB;
-       a = fieldbook_pointing(
-           1984, 7, 2, 14, 31, 0, 0, 1224000, -4230000, FIELDBOOK_SUN, 54184, 1228853210, options); */
+       set_out(a.mark); */
 struct fieldbook_pointing_answer fieldbook_pointing(int64_t year, int64_t month, int64_t day,
                                                     int64_t hour, int64_t minute,
                                                     int64_t millisecond, int64_t dut1,

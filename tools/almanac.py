@@ -1,8 +1,7 @@
 #!/usr/bin/env python3
-"""almanac.py SECOND [EDITION]: prints the tables of docs/almanacs.md: each figure of crates/vectors/almanac.txt beside what the second program (SECOND, its
-commands `parts` and `angle`) says of the same instant by an edition of the Sun's series, 1 the short one unless another is named, without ΔT and with it;
-then, of each quantity at hours of UT, the mean and the root mean square of the differences. The program `vectors` is held to the same numbers of the short
-edition by its stored run."""
+"""almanac.py SECOND: prints the tables of docs/almanacs.md: each figure of crates/vectors/almanac.txt beside what the second program (SECOND, its commands
+`parts` and `angle`) says of the same instant, without ΔT and with it; then, of each quantity at hours of UT, the mean and the root mean square
+of the differences. The program `vectors` is held to the same numbers by its stored run."""
 import collections
 import datetime
 import itertools
@@ -46,7 +45,7 @@ def ask(second, command, words):
 
 
 def parts(second, words):
-    """Its steps of a shot, by name: eleven numbers, then the edition unless it is the short one."""
+    """Its steps of a shot with eleven numbers, which is by the short edition, by name."""
     answer = ask(second, "parts", words)
     return dict(zip(answer[::2], answer[1::2]))
 
@@ -69,11 +68,11 @@ def instant(time, delta_t):
     return f"{time.year} {time.month} {time.day} {time.hour} {time.minute} {time.second * 1000 + time.microsecond // 1000} 0 {delta_t}"
 
 
-def sun(second, instant, edition=1):
+def sun(second, instant):
     """The quantities of the Sun at an instant, by the second program: seen from where it stands near the meridian, on the equator, so that the shot is
     answered."""
     *time, delta_t = instant.split()
-    step = parts(second, f"{' '.join(time)} 0 {6_480_000 - 540_000 * int(time[3])} 1 {delta_t} {edition}")
+    step = parts(second, f"{' '.join(time)} 0 {6_480_000 - 540_000 * int(time[3])} 1 {delta_t}")
     x, y, z = map(int, step["vector"].split(","))
     angle = lambda x, y: int(ask(second, "angle", f"{x} {y}")[0])
     return [int(step[name]) for name in ("s", "dpsi", "deps", "eps", "sidereal")] + [angle(x, y), short(angle(math.isqrt(x * x + y * y), z))]
@@ -121,14 +120,14 @@ def written(units, words, places):
     return f"{'−' if units < 0 else ''}{rest / 10**places:.{places}f}{marks[0]}{text}"
 
 
-def main(second, edition=1):
+def main(second):
     head, differences = None, collections.defaultdict(list)
     for hour, scale, delta_t, quantity, words, source in figures():
         if scale != head:
             print(HEADS[scale] + "\n|---|---|---|---|---|---|---|")
             head = scale
         figure = printed(words) % TURN if quantity == "right-ascension" else printed(words)
-        ours = {name: sun(second, at, edition)[list(QUANTITIES).index(quantity)] for name, at in readings(hour, scale, delta_t).items()}
+        ours = {name: sun(second, at)[list(QUANTITIES).index(quantity)] for name, at in readings(hour, scale, delta_t).items()}
         if ours.setdefault("ET", ours["without"]) != ours["without"]:
             sys.exit(f"{hour} of ET with ΔT and without are not the same: {quantity}")
         cells = [f"{hour:%Y-%m-%d}", f"{QUANTITIES[quantity]} ({source})", written(figure, words, max(len(word.partition(".")[2]) for word in words))]
@@ -146,6 +145,6 @@ def main(second, edition=1):
 
 
 if __name__ == "__main__":
-    if not 2 <= len(sys.argv) <= 3:
-        sys.exit("usage: almanac.py SECOND-PROGRAM [EDITION]")
-    main(os.path.abspath(sys.argv[1]), *sys.argv[2:])
+    if len(sys.argv) != 2:
+        sys.exit("usage: almanac.py SECOND-PROGRAM")
+    main(os.path.abspath(sys.argv[1]))

@@ -2,9 +2,9 @@
 """vectors.py VECTORS SECOND: writes the stored run of the program `vectors`, crates/vectors/stdin and stdout: a line that asks, and the line that must
 answer it. VECTORS is the folder of the outside vectors, SECOND the second program. No answer comes from the program under test: most are what the vector
 files have behind the `=`, the lines of crates/vectors/cases.txt are answered there, and the Sun's numbers at the almanacs' instants are the second
-program's, as are the calls that bring the numbers of a pointing onto a card. card.txt is older than request 9: the angles of an answered shot of the Sun
-are the second program's, which must agree with it in everything else. Prints how many lines each word has. Where a line of longitude.txt breaks its own
-bound, nothing is written."""
+program's, as are the calls that bring the numbers of a pointing onto a card. pointing.txt is older than request 5: what hangs on the sine, a mark's
+azimuth and whether its shot is refused by 7 or 8, is the second program's, which must agree with it in everything else. Prints how many lines each word
+has. Where a line of longitude.txt breaks its own bound, nothing is written."""
 import collections
 import os
 import sys
@@ -16,26 +16,23 @@ from almanac import ROOT, TURN
 # the names of parts.txt in the order in which `parts` answers
 TIME = "N sidereal_q Ne q L Ms Mm Mv D Om Lm obl lp1 lp2 lp3 lp4 MM MJ Msn".split()
 FRAME = "dpsi mean_obliquity eps sidereal g".split()
-SUN = ["r", "aberration", "s"]
+SUN = ["s"]
 POLARIS = "p ra dec zeta z theta catalogue before_aberration".split()
 VIEW = "vector x east z_component up north azimuth zenith hour_angle".split()
 # of the plain shots, so many of each refusal, of the answered ones of each body and edition; after so many calls on the card stands one of them, which must
 # leave the card alone
 SHOTS = 4
 CALLS = 20
-# of the pointings from a card, so many of each refusal, of the answered ones of each body, edition and limb; a number that can be heard is at most so
-# large; the buffer that it is read into
+# of the pointings from a card, so many of each refusal and of each body; a number that can be heard is at most so large; the buffer that it is read into
 POINTINGS = 1
 HEARD = 9_999_999
 EMPTY = "00" * 15
 # the most numbers of a line
-NUMBERS = 14
+NUMBERS = 13
 # the most digits of a number on a line
 DIGITS = 18
-# the places of the body and of the edition on a line of shot.txt, and of the edition and of the limb on one of pointing.txt; how many numbers go onto a card
+# the places of the body and of the edition on a line of shot.txt
 BODY, EDITION = 9, 11
-POINTING_EDITION, POINTING_LIMB = 12, 13
-FIELDS = 11
 # a latitude from which Polaris is always seen, 45° in 0.1″
 NORTH = 1_620_000
 
@@ -114,38 +111,22 @@ def first_of_each(lines, count, places):
 
 def some_shots(lines):
     """Of the plain shots those that a line has room for."""
-    fitting = [(left, right) for left, right in lines if fits(left.split())]
+    fitting = [(left, right) for left, right in lines if all(len(number.lstrip("-")) <= DIGITS for number in left.split())]
     return [(f"shot {left}", right) for left, right in first_of_each(fitting, SHOTS, (BODY, EDITION))]
 
 
-def calls_on_the_card(second, lines):
-    """The calls of card.txt, with the second program's angles of the Sun."""
-    answers = almanac.answers(second, "card", [left for left, _ in lines])
-    for (left, right), answer in zip(lines, answers):
-        if without_angles_of_the_sun(answer) != without_angles_of_the_sun(right):
-            sys.exit(f"the second program has {answer}: {left} = {right}")
-    return [(left, answer) for (left, _), answer in zip(lines, answers)]
-
-
-def without_angles_of_the_sun(answer):
-    """An answer on the card without the four angles of an answered shot, unless its longitude is 0 as that of Polaris is."""
-    returned, card = answer.split("|")
-    words = returned.split()
-    return f"0 |{card}" if len(words) == 5 and words[0] == "0" and words[4] != "0" else answer
-
-
 def pointings_from_cards(second, lines):
-    """A pointing of each kind of pointing.txt from a card: refused by 1 on the fresh card, and answered where every number was heard, read and confirmed."""
+    """A pointing of each kind of pointing.txt from a card: refused by 1 on the fresh card, and answered where every number was heard, read and confirmed.
+    The answers are the second program's, which must agree with the file on what does not hang on the sine."""
     found = []
-    heard = [(left, right) for left, right in lines if can_be_heard(left)]
-    for left, right in first_of_each(heard, POINTINGS, (BODY, POINTING_EDITION, POINTING_LIMB)):
-        fields, asked = left.split()[:FIELDS], f"pointing {' '.join(left.split()[FIELDS:])}"
-        calls = ["fresh", asked]
+    for left, right in first_of_each([(left, right) for left, right in lines if can_be_heard(left)], POINTINGS, (BODY,)):
+        *fields, angle = left.split()
+        calls = ["fresh", f"pointing {angle}"]
         for number, value in enumerate(fields, 1):
             calls += [f"hear {number} {value}", f"read {number} 0 {EMPTY}", f"confirm {number}"]
-        calls.append(asked)
+        calls.append(f"pointing {angle}")
         answers = almanac.answers(second, "card", calls)
-        if not answers[-1].startswith(right + " | "):
+        if without_sine(answers[-1].split()[0]) != without_sine(right.split()[0]):
             sys.exit(f"the second program has {answers[-1]}: {left} = {right}")
         found += zip(calls, answers)
     return found
@@ -163,14 +144,12 @@ def choices(lines):
 
 
 def can_be_heard(left):
-    """Whether the numbers of a pointing can be brought onto a card, and the others onto a line."""
-    numbers = left.split()
-    return all(abs(int(value)) <= HEARD for value in numbers[:FIELDS]) and fits(numbers[FIELDS:])
+    return all(abs(int(value)) <= HEARD for value in left.split()[:-1])
 
 
-def fits(numbers):
-    """Whether a line has room for the digits of each number."""
-    return all(len(number.lstrip("-")) <= DIGITS for number in numbers)
+def without_sine(refusal):
+    """A refusal's number, one for all that hang on the sine: 0 for none, 7 below the horizon, 8 near the zenith, and 15 behind these."""
+    return "seen or not" if refusal in ("0", "7", "8", "15") else refusal
 
 
 def calls_and_shots(calls, shots):
@@ -193,7 +172,7 @@ def main(folder, second):
         + longitudes(vectors("longitude.txt"))
         + steps(vectors("parts.txt"))
         + suns(second)
-        + calls_and_shots(calls_on_the_card(second, vectors("card.txt")), some_shots(vectors("shot.txt")))
+        + calls_and_shots(vectors("card.txt"), some_shots(vectors("shot.txt")))
         + pointings_from_cards(second, vectors("pointing.txt"))
         + choices(vectors("choice.txt"))
     )

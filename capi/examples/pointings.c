@@ -2,10 +2,7 @@
    angle to a line, with an empty line between the sets. Prints the azimuth of the mark by each in
    degrees, minutes and seconds, or the refusal, and at the end which set has the smaller spread.
 
-   usage: pointings [EDITION [LIMB]]
-
-   EDITION: the edition of the Sun's series, a number; else the short one. LIMB: what was sighted, a
-   number, 2 the Sun's left limb, 3 its right one; else the centre. */
+   usage: pointings [EDITION]    the edition of the Sun's series, a number; else the short one */
 #include "fieldbook.h"
 
 #include <inttypes.h>
@@ -83,8 +80,6 @@ int main(int argc, char **argv)
     struct fieldbook_options options = FIELDBOOK_DEFAULTS;
     if (argc > 1)
         options.edition = strtoll(argv[1], NULL, 10);
-    if (argc > 2)
-        options.limb = strtoll(argv[2], NULL, 10);
     struct set first = work_set(options);
     struct set second = work_set(options);
     if (getchar() != EOF)

@@ -1,5 +1,5 @@
-/* Works the shots of standard input, eleven numbers to a line, and prints the angles and the Sun's
-   radius vector, or the refusal, of each.
+/* Works the shots of standard input, eleven numbers to a line, and prints the angles or the
+   refusal of each.
 
    usage: shots [EDITION]    the edition of the Sun's series, a number; else the short one */
 #include "fieldbook.h"
@@ -29,8 +29,8 @@ int main(int argc, char **argv)
         if (a.refusal != FIELDBOOK_ANSWERED)
             printf("no %" PRIu64 "\n", a.refusal);
         else
-            printf("az %" PRIu64 " zd %" PRIu64 " ha %" PRIu64 " s %" PRIu64 " r %" PRIu64 "\n",
-                   a.azimuth, a.zenith_distance, a.hour_angle, a.longitude, a.radius_vector);
+            printf("az %" PRIu64 " zd %" PRIu64 " ha %" PRIu64 " s %" PRIu64 "\n", a.azimuth,
+                   a.zenith_distance, a.hour_angle, a.longitude);
     }
     return 0;
 }

@@ -12,7 +12,7 @@ mod ffi;
 use fieldbook::{Card, Instant, Numbers, Refusal, ShotAngles};
 use second::call::Call;
 use second::card::Field;
-use second::compare::{compare_library, compare_longitudes, compare_vectors, Way};
+use second::compare::{compare_asked, compare_library, compare_longitudes, compare_vectors, Way};
 use second::counts::LEAST;
 use second::lent_cards::{
     compare_card_vectors, compare_lent_cards, compare_own_cards, outcomes_of_lent_cards,
@@ -27,33 +27,29 @@ use std::ptr;
 
 /// Options as the static library takes them.
 fn library_options(options: Options) -> ffi::Options {
-    ffi::Options { edition: options.edition, limb: options.limb }
+    ffi::Options { edition: options.edition }
 }
 
 /// Options as the wrapper takes them.
 fn wrapped_options(options: Options) -> fieldbook::Options {
-    fieldbook::Options { edition: options.edition, limb: options.limb }
-}
-
-/// The static library's answer to a shot.
-fn shot_answer(a: ffi::ShotAnswer) -> LibraryAnswer<Shot> {
-    (a.refusal, [a.azimuth, a.zenith_distance, a.hour_angle, a.longitude, a.radius_vector])
+    fieldbook::Options { edition: options.edition }
 }
 
 /// The shot of the static library.
 fn shot(shot: &Shot) -> LibraryAnswer<Shot> {
-    shot_answer(ffi::shot(shot.fields, library_options(shot.options)))
+    let a = ffi::shot(shot.fields, library_options(shot.options));
+    (a.refusal, [a.azimuth, a.zenith_distance, a.hour_angle, a.longitude])
 }
 
-/// The wrapper's values of an answered shot.
-fn values(a: ShotAngles) -> [u64; 5] {
-    [a.azimuth, a.zenith_distance, a.hour_angle, a.longitude, a.radius_vector]
+/// The wrapper's angles of a shot.
+fn angles(a: ShotAngles) -> [u64; 4] {
+    [a.azimuth, a.zenith_distance, a.hour_angle, a.longitude]
 }
 
 /// The wrapper's answer to a shot as a library's.
 fn library_answer(answer: Result<ShotAngles, Refusal>) -> LibraryAnswer<Shot> {
     match answer {
-        Ok(answered) => (0, values(answered)),
+        Ok(answered) => (0, angles(answered)),
         Err(refusal) => (refusal as u64, Shot::REFUSED),
     }
 }
@@ -70,14 +66,14 @@ fn many_shots(rows: &[i64], words: &mut [u64], options: Options) -> u64 {
 
 /// Many shots through the wrapper, as words: it takes whole rows, and as many as there is room for.
 fn wrapped_many_shots(rows: &[i64], words: &mut [u64], options: Options) -> u64 {
-    let fields = rows.chunks_exact(11).take(words.len() / 6);
+    let fields = rows.chunks_exact(11).take(words.len() / 5);
     let numbers: Vec<Numbers> =
         fields.map(|row| <[i64; 11]>::try_from(row).expect("eleven numbers").into()).collect();
     let answers = fieldbook::shots(&numbers, wrapped_options(options));
-    for (words, answer) in words.chunks_exact_mut(6).zip(&answers) {
-        let (refusal, values) = library_answer(*answer);
+    for (words, answer) in words.chunks_exact_mut(5).zip(&answers) {
+        let (refusal, angles) = library_answer(*answer);
         words[0] = refusal;
-        words[1..].copy_from_slice(&values);
+        words[1..].copy_from_slice(&angles);
     }
     answers.len() as u64
 }
@@ -147,8 +143,8 @@ fn card_call(call: &Call, card: &mut [i64], buffer: &mut [u8]) -> Vec<u64> {
         Call::Confirm(field) => vec![ffi::card_confirm(card, field)],
         Call::Undo => vec![ffi::card_undo(card)],
         Call::Shot(options) => {
-            let (refusal, values) = shot_answer(ffi::card_shot(card, library_options(options)));
-            [&[refusal], values.as_slice()].concat()
+            let a = ffi::card_shot(card, library_options(options));
+            vec![a.refusal, a.azimuth, a.zenith_distance, a.hour_angle, a.longitude]
         }
     }
 }
@@ -167,7 +163,7 @@ fn wrapped_card_call(card: &mut Card, call: &Call, buffer: &mut [u8]) -> (Vec<u6
         Call::Confirm(field) => card.confirm(field).map(|()| vec![]),
         Call::Undo => card.undo().map(|()| vec![]),
         Call::Shot(options) => {
-            card.shot(wrapped_options(options)).map(|answered| values(answered).to_vec())
+            card.shot(wrapped_options(options)).map(|answered| angles(answered).to_vec())
         }
     };
     let answer = call.answer_words(values.map_err(|refusal| refusal as u64));
@@ -186,6 +182,14 @@ fn second_field(field: fieldbook::Field) -> Field {
     }
 }
 
+/// The outside vectors of a kind of question.
+enum Vectors {
+    /// Of the rules as they stand.
+    Current(&'static str),
+    /// Older than request 5: with the second program's answers.
+    Older(&'static str),
+}
+
 /// Compares one kind of question on random ones.
 fn random_agree<Q: Question>(
     name: &str,
@@ -202,14 +206,19 @@ fn random_agree<Q: Question>(
 fn agrees<Q: Question>(
     name: &str,
     run: (u64, u64),
-    vectors: &str,
+    vectors: Vectors,
     library: fn(&Q) -> LibraryAnswer<Q>,
     wrapper: fn(&Q) -> LibraryAnswer<Q>,
 ) -> Result<(), String> {
     let ways: [Way<Q>; 2] = [("the static library", &library), ("its wrapper", &wrapper)];
     random_agree(name, run, &ways)?;
-    let lines = compare_vectors(vectors, &ways)?;
-    println!("{lines} {name} of the outside vectors agree, through the static library");
+    let (lines, answers) = match vectors {
+        Vectors::Current(file) => (compare_vectors(file, &ways)?, "agree"),
+        Vectors::Older(file) => {
+            (compare_asked(&Sine::new(), file, &ways)?, "agree with the second program")
+        }
+    };
+    println!("{lines} {name} of the outside vectors {answers}, through the static library");
     Ok(())
 }
 
@@ -246,10 +255,7 @@ fn cards_agree(run: (u64, u64)) -> Result<(), String> {
     println!("{} calls of the static library on cards agree: {counts}", counts.total());
     let vectors = include_str!("../../second/tests/data/card.txt");
     let calls = compare_card_vectors(&sine, vectors, &mut card_call)?;
-    println!(
-        "{calls} calls on cards of the outside vectors agree, through the static library, the \
-         Sun's angles by the second program"
-    );
+    println!("{calls} calls on cards of the outside vectors agree, through the static library");
     let mut card = Card::fresh();
     let counts = compare_own_cards(&sine, run, &mut |call, buffer| {
         wrapped_card_call(&mut card, call, buffer)
@@ -265,13 +271,13 @@ fn main() -> Result<(), Box<dyn Error>> {
         return Err("usage: compare SEED COUNT".into());
     };
     let run = (seed.parse()?, count.parse()?);
-    let vectors = include_str!("../../second/tests/data/shot.txt");
+    let vectors = Vectors::Current(include_str!("../../second/tests/data/shot.txt"));
     agrees("shots", run, vectors, shot, wrapped_shot)?;
     many_shots_agree(run)?;
-    let vectors = include_str!("../../second/tests/data/pointing.txt");
+    let vectors = Vectors::Older(include_str!("../../second/tests/data/pointing.txt"));
     agrees("pointings", run, vectors, pointing, wrapped_pointing)?;
     editions_agree(run)?;
-    let vectors = include_str!("../../second/tests/data/choice.txt");
+    let vectors = Vectors::Current(include_str!("../../second/tests/data/choice.txt"));
     agrees("choices", run, vectors, choice, wrapped_choice)?;
     cards_agree(run)?;
     Ok(())

@@ -1,5 +1,5 @@
 //! The bound of demand 3: how far s may lie from the polynomial longitude, for each edition.
-//! Document 02, requests 5 and 7; the aberration of request 9 is the same on both sides.
+//! Document 02, requests 5 and 7.
 
 use crate::calendar::{instant, LARGEST_DELTA_T};
 use crate::edition::Edition;

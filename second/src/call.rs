@@ -57,17 +57,17 @@ impl Call {
             }
             Call::Confirm(field) => card.confirm(field).map(|()| vec![]),
             Call::Undo => card.undo().map(|()| vec![]),
-            Call::Shot(options) => card.shot(sine, options).map(|answer| answer.words().to_vec()),
+            Call::Shot(options) => card.shot(sine, options).map(|angles| angles.words().to_vec()),
         };
         self.answer_words(values.map_err(|refusal| refusal.number() as u64))
     }
 
     /// The words of an answer: the refusal's number, 0 for none; behind it a reading's length or a
-    /// shot's four angles and r, zeros when refused.
+    /// shot's four angles, zeros when refused.
     pub fn answer_words(&self, values: Result<Vec<u64>, u64>) -> Vec<u64> {
         let count = match self {
             Call::Read { .. } => 1,
-            Call::Shot(_) => 5,
+            Call::Shot(_) => 4,
             _ => 0,
         };
         match values {

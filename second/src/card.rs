@@ -1,10 +1,10 @@
 //! The card: what was heard, read out and confirmed of each field. Document 01, "The card";
-//! document 02, requests 3, 4, 6, 7 and 9.
+//! document 02, requests 3, 4, 6 and 7.
 
 use crate::digits::text;
 #[cfg(test)]
 use crate::digits::LONGEST;
-use crate::fieldbook::{shot, Fields, ShotAnswer};
+use crate::fieldbook::{shot, Angles, Fields};
 use crate::options::Options;
 use crate::refusal::Refusal;
 use crate::sine::Sine;
@@ -132,8 +132,8 @@ impl Card {
         Ok(())
     }
 
-    /// The eleven numbers for a shot, or refusal 1 unless every field is confirmed.
-    pub fn numbers(&self) -> Result<Fields, Refusal> {
+    /// The shot from the card: refusal 1 unless every field is confirmed, whatever the options.
+    pub fn shot(&self, sine: &Sine, options: Options) -> Result<Angles, Refusal> {
         let mut numbers: Fields = [0; 11];
         for (number, field) in numbers.iter_mut().zip(self.fields) {
             let Field::Confirmed(confirmed) = field else {
@@ -141,12 +141,7 @@ impl Card {
             };
             *number = confirmed;
         }
-        Ok(numbers)
-    }
-
-    /// The shot from the card; refusal 1 comes before all others, whatever the options.
-    pub fn shot(&self, sine: &Sine, options: Options) -> Result<ShotAnswer, Refusal> {
-        shot(sine, &self.numbers()?, options)
+        shot(sine, &numbers, options)
     }
 
     /// The card in words: state and number of each field; then the number of the field whose
@@ -214,11 +209,11 @@ mod tests {
     use crate::random_calls::{random_calls, Start};
     use crate::replay::card_line;
 
-    /// The Sun on 5 September 1979, answered in the outside vectors of shots.
-    const FIELDS: Fields = [1979, 9, 5, 21, 54, 8_091, -267, 732_020, 4_418_707, 1, 66_794];
+    /// The Sun on 4 July 1980, answered in the outside vectors of shots.
+    const FIELDS: Fields = [1980, 7, 4, 14, 41, 3_294, 245, -922_076, -743_081, 1, 115_194];
 
-    /// The shot from a card by the default options.
-    fn short_shot(sine: &Sine, card: &Card) -> Result<ShotAnswer, Refusal> {
+    /// The shot from a card by the short edition.
+    fn short_shot(sine: &Sine, card: &Card) -> Result<Angles, Refusal> {
         card.shot(sine, Options::default())
     }
 
@@ -250,16 +245,13 @@ mod tests {
     fn options_of_a_shot_from_a_card() {
         let sine = Sine::new();
         let card = Card::confirmed(&FIELDS);
-        let numbers = [-1, 0, 1, 2, 3, 4];
-        for [edition, limb] in numbers.iter().flat_map(|&e| numbers.map(|limb| [e, limb])) {
-            let options = Options { edition, limb };
+        for edition in [-1, 0, 1, 2, 3] {
+            let options = Options { edition };
             assert_eq!(card.shot(&sine, options), shot(&sine, &FIELDS, options));
             let refused = Err(Refusal::FieldNotConfirmed);
             assert_eq!(Card::fresh().shot(&sine, options), refused);
         }
-        let by = |edition, limb| card.shot(&sine, Options { edition, limb });
-        assert_eq!(by(3, 4), Err(Refusal::NoSuchEdition));
-        assert_eq!(by(2, 4), Err(Refusal::NoSuchLimb));
+        assert_eq!(card.shot(&sine, Options { edition: 3 }), Err(Refusal::NoSuchEdition));
     }
 
     /// The two starts differ in DUT1 alone: on a fresh card nobody has said it, on the other

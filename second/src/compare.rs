@@ -4,9 +4,8 @@
 use crate::card::Card;
 use crate::counts::{answered_or, Counts, Outcome};
 use crate::lines::joined;
-use crate::options::Options;
 use crate::question::{
-    answer_text, asked_by_vector, vector_text, BatchQuestion, Editions, LibraryAnswer, Question,
+    answer_text, asked_by_vector, BatchQuestion, Editions, LibraryAnswer, Question,
 };
 use crate::random::Random;
 use crate::random_lines::Lines;
@@ -38,7 +37,7 @@ pub fn random_batch<Q: BatchQuestion>(sine: &Sine, seed: u64, count: u64) -> Vec
 /// their defaults; rarely too few or too many.
 fn batch_numbers<Q: BatchQuestion>(random: &mut Random, question: &Q) -> Vec<i64> {
     let mut numbers = question.numbers();
-    for &default in Options::default().numbers()[..Q::OPTIONS].iter().rev() {
+    for default in Q::defaults().into_iter().rev() {
         if numbers.pop_if(|last| *last == default && random.once_in(2)).is_none() {
             break;
         }
@@ -74,7 +73,7 @@ pub fn call_answers(sine: &Sine, input: &[u8]) -> Vec<u8> {
 /// The outcomes that a batch reaches: 14 too, where a number has more digits than a line's may or
 /// the numbers are too few or too many.
 pub fn outcomes_of_a_batch<Q: BatchQuestion>() -> Vec<Outcome> {
-    [Q::outcomes_of_lines(), vec![Outcome::Refused(14)]].concat()
+    [Q::outcomes(), vec![Outcome::Refused(14)]].concat()
 }
 
 /// The seed and the number of lines of each of several random sessions, `count` lines in
@@ -114,13 +113,13 @@ pub fn random_lines(sine: &Sine, seed: u64, count: u64) -> Vec<u8> {
     text
 }
 
-/// The outcomes that sessions reach; their buffer always holds the text, so 11 is none, nor are 19
-/// and 20, since no line names an edition or a limb.
+/// The outcomes that sessions reach; their buffer always holds the text, so 11 is none, nor is 19,
+/// since no line names an edition.
 pub fn outcomes_of_sessions() -> Vec<Outcome> {
     answered_or((1..=10).chain([12, 13, 14, 17]))
 }
 
-/// The outcomes that calls on a card by lines reach; these name no edition and no limb either.
+/// The outcomes that calls on a card by lines reach; these name no edition either.
 pub fn outcomes_of_calls() -> Vec<Outcome> {
     [answered_or((1..=13).chain([17, 18])), vec![Outcome::Undone]].concat()
 }
@@ -141,18 +140,13 @@ pub fn equal_outputs(expected: &[u8], given: &[u8]) -> Result<(), String> {
     }
 }
 
-/// An error where one of the ways to a library doesn't lead to the expected answer, as `text`
-/// writes it.
-fn all_answer<Q: Question>(
-    ways: &[Way<Q>],
-    question: &Q,
-    text: fn(&LibraryAnswer<Q>) -> String,
-    expected: &str,
-) -> Result<(), String> {
+/// An error where one of the ways to a library doesn't lead to the expected answer.
+fn all_answer<Q: Question>(ways: &[Way<Q>], question: &Q, expected: &str) -> Result<(), String> {
     for (name, ask) in ways {
-        let given = text(&ask(question));
+        let given = answer_text(&ask(question));
         if given != expected {
-            return Err(format!("{name}, {question:?}: {expected} expected, {given} given"));
+            let line = joined(&question.numbers());
+            return Err(format!("{name}, {line}: {expected} expected, {given} given"));
         }
     }
     Ok(())
@@ -170,7 +164,7 @@ pub fn compare_library<Q: Question>(
     for _ in 0..count {
         let question = Q::random(&mut random, sine);
         let answer = Q::as_library(question.answer(sine));
-        all_answer(ways, &question, answer_text::<Q>, &answer_text::<Q>(&answer))?;
+        all_answer(ways, &question, &answer_text(&answer))?;
         counts.add(question.outcome(&answer), 1);
     }
     Ok(counts)
@@ -179,8 +173,20 @@ pub fn compare_library<Q: Question>(
 /// Compares a library, asked in each of some ways, with vectors, lines `numbers = answer`, and
 /// returns how many there are; the error tells the first that is answered otherwise.
 pub fn compare_vectors<Q: Question>(file: &str, ways: &[Way<Q>]) -> Result<usize, String> {
-    each_vector(file, |given, expected| {
-        all_answer(ways, &question_of(given)?, vector_text::<Q>, expected)
+    each_vector(file, |given, expected| all_answer(ways, &question_of(given)?, expected))
+}
+
+/// The same with this program's answers to the vectors' questions, where these are older than the
+/// rules.
+pub fn compare_asked<Q: Question>(
+    sine: &Sine,
+    file: &str,
+    ways: &[Way<Q>],
+) -> Result<usize, String> {
+    each_vector(file, |given, _| {
+        let question: Q = question_of(given)?;
+        let answer = Q::as_library(question.answer(sine));
+        all_answer(ways, &question, &answer_text(&answer))
     })
 }
 
@@ -200,7 +206,7 @@ pub fn compare_longitudes(file: &str, ways: &[Way<Editions>]) -> Result<usize, S
             };
             let is_equal = expected.split(' ').next() == Some(s.to_string().as_str());
             if refusal != 0 || !is_equal || apart > bound {
-                let answer = answer_text::<Editions>(&(refusal, values));
+                let answer = answer_text(&(refusal, values));
                 return Err(format!("{name}, {given}: s of {expected} expected, {answer} given"));
             }
         }
@@ -214,7 +220,7 @@ fn question_of<Q: Question>(given: &str) -> Result<Q, String> {
 }
 
 /// Takes the two sides of each of the vectors, and returns how many there are.
-pub fn each_vector(
+fn each_vector(
     file: &str,
     mut take: impl FnMut(&str, &str) -> Result<(), String>,
 ) -> Result<usize, String> {

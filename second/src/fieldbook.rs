@@ -1,12 +1,11 @@
 //! The shot with eleven plain numbers and its options. Document 01, "The card", "Refusal numbers"
-//! and the last sentence of "The horizon"; document 02, requests 3, 7 and 9.
+//! and the last sentence of "The horizon"; document 02, requests 3 and 7.
 
 use crate::arguments::Arguments;
 use crate::calendar::{instant, Instant};
 use crate::edition::Edition;
 use crate::frame::{frame, Frame, FRAME_ARGUMENTS};
 use crate::horizon::{angles, components, Components, HorizonAngles};
-use crate::limb::Limb;
 use crate::options::Options;
 use crate::polaris::{polaris, Polaris};
 use crate::refusal::Refusal;
@@ -17,33 +16,26 @@ use crate::sun::{sun, Sun};
 /// The eleven numbers of a shot, field 1 first.
 pub type Fields = [i64; 11];
 
-/// Field 10 of a shot of the Sun.
-pub const SUN: i64 = 1;
-/// Field 10 of a shot of Polaris.
-pub const POLARIS: i64 = 2;
 /// The largest latitude, 89 degrees in 0.1 seconds.
 pub const LARGEST_LATITUDE: i64 = 3_204_000;
 /// The largest longitude, 180 degrees in 0.1 seconds; its negative isn't accepted.
 pub const LARGEST_LONGITUDE: i64 = 6_480_000;
 
-/// What an answered shot gives: four angles, in units, and the Sun's distance.
-#[derive(Clone, Copy, Debug, PartialEq, Eq)]
-pub struct ShotAnswer {
+/// The four angles of an answered shot, in units.
+#[derive(Clone, Copy, Debug, Default, PartialEq, Eq)]
+pub struct Angles {
     pub azimuth: i64,
     pub zenith_distance: i64,
     pub hour_angle: i64,
     /// s; 0 for Polaris.
     pub apparent_longitude: i64,
-    /// r, in units of 10^-9 of the mean distance; 0 for Polaris.
-    pub radius_vector: i64,
 }
 
-impl ShotAnswer {
-    /// All five in the order in which the C interface answers them.
-    pub fn words(&self) -> [u64; 5] {
-        let ShotAnswer { azimuth, zenith_distance, hour_angle, .. } = *self;
-        [azimuth, zenith_distance, hour_angle, self.apparent_longitude, self.radius_vector]
-            .map(|number| number as u64)
+impl Angles {
+    /// The four angles in the order in which the C interface answers them.
+    pub fn words(&self) -> [u64; 4] {
+        [self.azimuth, self.zenith_distance, self.hour_angle, self.apparent_longitude]
+            .map(|angle| angle as u64)
     }
 }
 
@@ -58,7 +50,7 @@ pub enum Body {
 #[derive(Clone, Copy, Debug)]
 pub struct Reduction {
     pub instant: Instant,
-    pub limb: Limb,
+    pub arguments: Arguments,
     pub frame: Frame,
     pub body: Body,
     pub components: Components,
@@ -86,7 +78,6 @@ impl Reduction {
 pub struct Accepted {
     pub instant: Instant,
     pub edition: Edition,
-    pub limb: Limb,
 }
 
 /// Fields 1 to 7 and 11, the numbers of a shot's instant.
@@ -95,8 +86,7 @@ pub fn instant_fields(fields: &Fields) -> [i64; 8] {
     [year, month, day, hour, minute, millisecond, dut1, delta_t]
 }
 
-/// What the shot is worked by, or the first of the refusals 2, 3, 4, 17, 5, 6, 19 and 20 that
-/// applies.
+/// What the shot is worked by, or the first of the refusals 2, 3, 4, 17, 5, 6 and 19 that applies.
 pub fn check(fields: &Fields, options: Options) -> Result<Accepted, Refusal> {
     let instant = instant(&instant_fields(fields))?;
     let [.., latitude, longitude, body, _] = *fields;
@@ -105,21 +95,20 @@ pub fn check(fields: &Fields, options: Options) -> Result<Accepted, Refusal> {
     if !latitudes.contains(&latitude) || !longitudes.contains(&longitude) {
         return Err(Refusal::PositionOutOfRange);
     }
-    if ![SUN, POLARIS].contains(&body) {
+    if !(1..=2).contains(&body) {
         return Err(Refusal::NoSuchBody);
     }
     let edition = Edition::from_number(options.edition)?;
-    let limb = Limb::from_number(options.limb, body)?;
-    Ok(Accepted { instant, edition, limb })
+    Ok(Accepted { instant, edition })
 }
 
 /// Works a shot to the components in the horizon's frame, or the refusals of `check`.
 pub fn reduction(sine: &Sine, fields: &Fields, options: Options) -> Result<Reduction, Refusal> {
-    let Accepted { instant, edition, limb } = check(fields, options)?;
+    let Accepted { instant, edition } = check(fields, options)?;
     let ephemeris = &instant.ephemeris;
     let mut arguments = Arguments::at(ephemeris, &FRAME_ARGUMENTS);
     let frame = frame(sine, &instant, &arguments);
-    let body = if fields[9] == SUN {
+    let body = if fields[9] == 1 {
         arguments.extend(ephemeris, edition.arguments());
         Body::Sun(sun(sine, edition, &arguments, ephemeris.millionths, &frame))
     } else {
@@ -127,24 +116,22 @@ pub fn reduction(sine: &Sine, fields: &Fields, options: Options) -> Result<Reduc
     };
     let direction = body.direction();
     let components = components(sine, direction, frame.sidereal_time, fields[7], fields[8]);
-    Ok(Reduction { instant, limb, frame, body, components })
+    Ok(Reduction { instant, arguments, frame, body, components })
 }
 
-/// The shot: its answer, which the limb does not change, or the first refusal of `check`, then 7,
-/// 8, that applies.
-pub fn shot(sine: &Sine, fields: &Fields, options: Options) -> Result<ShotAnswer, Refusal> {
+/// The shot: four angles, or the first refusal of `check`, then 7, 8, that applies.
+pub fn shot(sine: &Sine, fields: &Fields, options: Options) -> Result<Angles, Refusal> {
     let reduction = reduction(sine, fields, options)?;
     let angles = reduction.horizon_angles(sine)?;
-    let (apparent_longitude, radius_vector) = match reduction.body {
-        Body::Sun(place) => (place.apparent_longitude, place.radius_vector),
-        Body::Polaris(_) => (0, 0),
+    let apparent_longitude = match reduction.body {
+        Body::Sun(place) => place.apparent_longitude,
+        Body::Polaris(_) => 0,
     };
-    Ok(ShotAnswer {
+    Ok(Angles {
         azimuth: angles.azimuth,
         zenith_distance: angles.zenith_distance,
         hour_angle: angles.hour_angle,
         apparent_longitude,
-        radius_vector,
     })
 }
 
@@ -153,29 +140,26 @@ mod tests {
     use super::*;
     use crate::calendar::LARGEST_DELTA_T;
 
-    /// The Sun under the horizon on 4 May 2001, in the outside vectors of shots.
-    const BELOW: Fields = [2001, 5, 4, 22, 7, 27_665, -215, -1_887_045, -87_283, 1, 0];
+    /// The Sun under the horizon on 29 February 2024, in the outside vectors of shots.
+    const BELOW: Fields = [2024, 2, 29, 16, 54, 57_922, 0, -1_909_396, -6_162_022, 1, 0];
 
-    /// Polaris above the horizon on 23 July 1978, in the outside vectors of shots.
-    const ABOVE: Fields = [1978, 7, 23, 20, 17, 34_784, 900, 2_344_294, 3_072_299, 2, 81_868];
+    /// Polaris above the horizon on 16 March 1976, in the outside vectors of shots.
+    const POLARIS: Fields = [1976, 3, 16, 13, 34, 4_855, 801, 2_199_586, -4_998_479, 2, 107_385];
 
-    /// The refusal of these fields with some options.
-    fn refusal(fields: &Fields, options: Options) -> Option<Refusal> {
-        shot(&Sine::new(), fields, options).err()
+    /// The refusal of these fields with an edition.
+    fn refusal(fields: &Fields, edition: i64) -> Option<Refusal> {
+        shot(&Sine::new(), fields, Options { edition }).err()
     }
 
-    /// An unknown limb, then an unknown edition too, then a bad number in one field more at a time,
-    /// the last test first: each refusal is given before those behind it.
+    /// An unknown edition, then a bad number in one field more at a time, the last test first: each
+    /// refusal is given before those behind it.
     #[test]
     fn refusals_in_their_order() {
         let mut fields = BELOW;
-        for (edition, limb) in [(1, 1), (2, 1), (1, 2), (2, 3)] {
-            let known = Options { edition, limb };
+        for known in [1, 2] {
             assert_eq!(refusal(&fields, known), Some(Refusal::BelowHorizon));
         }
-        let no_limb = Options { edition: 2, limb: 4 };
-        assert_eq!(refusal(&fields, no_limb), Some(Refusal::NoSuchLimb));
-        let unknown = Options { edition: 3, limb: 4 };
+        let unknown = 3;
         assert_eq!(refusal(&fields, unknown), Some(Refusal::NoSuchEdition));
         let spoiled = [
             (9, 3, Refusal::NoSuchBody),
@@ -197,7 +181,7 @@ mod tests {
         let with = |delta_t| {
             let mut fields = BELOW;
             fields[10] = delta_t;
-            refusal(&fields, Options::default())
+            refusal(&fields, 1)
         };
         for accepted in [0, LARGEST_DELTA_T] {
             assert_eq!(with(accepted), Some(Refusal::BelowHorizon));
@@ -211,38 +195,11 @@ mod tests {
     #[test]
     fn polaris_by_any_known_edition() {
         let sine = Sine::new();
-        let by = |edition| shot(&sine, &ABOVE, Options { edition, ..Options::default() });
+        let by = |edition| shot(&sine, &POLARIS, Options { edition });
         assert!(by(1).is_ok());
         assert_eq!(by(1), by(2));
         for unknown in [i64::MIN, -1, 0, 3, i64::MAX] {
             assert_eq!(by(unknown), Err(Refusal::NoSuchEdition));
-        }
-    }
-
-    /// Of Polaris only the centre is sighted, and an unknown edition is refused before a limb.
-    #[test]
-    fn polaris_has_no_limb() {
-        let sine = Sine::new();
-        let by = |edition, limb| shot(&sine, &ABOVE, Options { edition, limb });
-        assert!(by(1, 1).is_ok());
-        for limb in [i64::MIN, -1, 0, 2, 3, 4, i64::MAX] {
-            assert_eq!(by(1, limb), Err(Refusal::NoSuchLimb));
-            assert_eq!(by(0, limb), Err(Refusal::NoSuchEdition));
-        }
-    }
-
-    /// Whichever limb is sighted, the shot answers the same: it is of the centre.
-    #[test]
-    fn the_shot_is_of_the_centre() {
-        let sine = Sine::new();
-        let mut opposite = BELOW;
-        opposite[8] += LARGEST_LONGITUDE;
-        let by = |edition, limb| shot(&sine, &opposite, Options { edition, limb });
-        for edition in [1, 2] {
-            assert!(by(edition, 1).is_ok());
-            for limb in [2, 3] {
-                assert_eq!(by(edition, limb), by(edition, 1));
-            }
         }
     }
 }

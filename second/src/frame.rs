@@ -112,15 +112,15 @@ mod tests {
         frame(&Sine::new(), &Instant { universal, ephemeris }, &arguments).sidereal_time
     }
 
-    /// 12 March 1986 in the outside vectors of parts. By ET alone it would be far later; with
-    /// the nutation by UT1 too, two units more.
+    /// 4 December 2002 in the outside vectors of parts. By ET alone it would be far later; with
+    /// the nutation by UT1 too, two units less.
     #[test]
     fn mean_part_by_ut1_and_nutation_by_et() {
         let Instant { universal, ephemeris } =
-            instant(&[1986, 3, 12, 18, 5, 47_292, 673, 120_000]).unwrap();
-        assert_eq!(sidereal_time(universal, ephemeris), 2_935_394_978);
-        assert_eq!(sidereal_time(ephemeris, ephemeris), 2_953_444_261);
-        assert_eq!(sidereal_time(universal, universal), 2_935_394_980);
+            instant(&[2002, 12, 4, 6, 19, 52_042, 317, 120_000]).unwrap();
+        assert_eq!(sidereal_time(universal, ephemeris), 6_043_058_509);
+        assert_eq!(sidereal_time(ephemeris, ephemeris), 6_061_107_791);
+        assert_eq!(sidereal_time(universal, universal), 6_043_058_507);
     }
 
     /// A millisecond before q is a million, one of ΔT takes only the other q there.

@@ -1,14 +1,14 @@
 //! Random histories of calls on a card that a library keeps in words its caller lends, or that it
-//! shows by its fields alone: document 02, request 6; its shots have options: requests 7 and 9.
+//! shows by its fields alone: document 02, request 6; its shots have options: request 7.
 
 use crate::call::Call;
 use crate::card::{Card, Field, LARGEST_HEARD, WORDS};
-use crate::compare::{each_vector, outcomes_of_calls};
+use crate::compare::outcomes_of_calls;
 use crate::counts::{Counts, Outcome};
 use crate::lines::joined;
 use crate::random::{any_size, random_options, Random, EXTREMES};
 use crate::random_calls::{history, CALLS};
-use crate::replay::{card_line, card_line_by, without_angles_of_the_sun};
+use crate::replay::card_line_by;
 use crate::sine::Sine;
 use std::fmt::Debug;
 
@@ -41,10 +41,9 @@ pub type OwnCall<'a> = &'a mut dyn FnMut(&Call, &mut [u8]) -> (Vec<u64>, Vec<Fie
 /// What a call leaves: the words of its answer, the card, and the buffer with its spares.
 type Left<C> = (Vec<u64>, C, Vec<u8>);
 
-/// The outcomes that calls on a library's own card reach: a shot there may name an edition and a
-/// limb.
+/// The outcomes that calls on a library's own card reach: a shot there may name an edition.
 pub fn outcomes_of_own_cards() -> Vec<Outcome> {
-    [outcomes_of_calls(), vec![Outcome::Refused(19), Outcome::Refused(20)]].concat()
+    [outcomes_of_calls(), vec![Outcome::Refused(19)]].concat()
 }
 
 /// The outcomes that calls on lent words reach.
@@ -91,26 +90,25 @@ pub fn compare_lent_cards(
 }
 
 /// Compares a library's calls on lent words with vectors, lines `call = answer`, and returns how
-/// many there are; the error tells the first that is answered otherwise. The angles of the Sun,
-/// which the vectors have as they were before request 9, must be this program's.
+/// many there are; the error tells the first that is answered otherwise.
 pub fn compare_card_vectors(sine: &Sine, file: &str, library: LentCall) -> Result<usize, String> {
-    let (mut card, mut own_card) = (Card::fresh(), Card::fresh());
+    let mut card = Card::fresh();
     let mut on_words = |call: &Call, card: &mut Card, buffer: &mut [u8]| {
         let mut words = card.words();
         let answer = library(call, &mut words, buffer);
         *card = Card::from_words(&words).expect("a call leaves a card");
         answer
     };
-    each_vector(file, |call, expected| {
-        let own = card_line(sine, &mut own_card, call.as_bytes());
-        let given = card_line_by(&mut on_words, sine, &mut card, call.as_bytes());
-        let [by_vectors, by_own] = [Some(expected), own.as_deref().ok()]
-            .map(|answer| answer.map(without_angles_of_the_sun));
-        if by_own != by_vectors || given != own {
-            return Err(format!("{call}: {expected} expected, {own:?} here, {given:?} given"));
+    let mut taken = 0;
+    for line in file.lines().filter(|line| !line.starts_with('#')) {
+        let (call, expected) =
+            line.split_once(" = ").ok_or_else(|| format!("{line}: no answer"))?;
+        match card_line_by(&mut on_words, sine, &mut card, call.as_bytes()) {
+            Ok(given) if given == expected => taken += 1,
+            given => return Err(format!("{line}: {given:?} given")),
         }
-        Ok(())
-    })
+    }
+    Ok(taken)
 }
 
 /// Makes one call on copies of words and buffer, by this program and by the library, and returns the

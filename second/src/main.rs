@@ -26,7 +26,7 @@ use std::thread;
 const USAGE: &str = "\
 usage: second COMMAND, from standard input to standard output, a line for a line
   shots                       eleven numbers [E] -> az A zd Z ha H s S, or no N
-  pointings                   eleven numbers, the horizontal angle [E [L]] -> mark M, or no N
+  pointings                   eleven numbers, the horizontal angle [E] -> mark M, or no N
   editions                    fields 1 to 7 and 11 -> short S full F apart D bound B, or no N
   session                     document 01's session
   parts                       eleven numbers [E] -> every step by name
@@ -36,7 +36,7 @@ usage: second COMMAND, from standard input to standard output, a line for a line
   choice                      two lists -> refusal, which list, its length
   card                        fresh, old, hear, read, confirm, undo, shot, pointing -> result, card
   count-refusals              answers of the first four -> how often each was given
-E is the edition of the Sun's series, L the limb that is sighted, each 1 where it is left out
+E is the edition of the Sun's series, 1 where it is left out
 without input:
   random-shots SEED COUNT     lines of shots
   random-pointings SEED COUNT lines of pointings

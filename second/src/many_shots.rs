@@ -1,5 +1,5 @@
-//! Many shots in one call of a library, with the same options: document 02, requests 5, 7 and 9.
-//! What they answer is what each shot answers by itself.
+//! Many shots in one call of a library, with the same options: document 02, requests 5 and 7. What
+//! they answer is what each shot answers by itself.
 
 use crate::counts::Counts;
 use crate::lines::joined;
@@ -8,9 +8,9 @@ use crate::question::{Question, Shot};
 use crate::random::{random_options, shot_fields, Random};
 use crate::sine::Sine;
 
-/// The numbers of a row, and the words of its answer: the refusal's number, four angles and r.
+/// The numbers of a row, and the words of its answer: the refusal's number and four angles.
 const NUMBERS: usize = 11;
-const WORDS: usize = 6;
+const WORDS: usize = 5;
 
 /// A library's call: rows of numbers, room for words and options -> how many rows it answered.
 pub type ManyShots<'a> = &'a dyn Fn(&[i64], &mut [u64], Options) -> u64;

@@ -2,6 +2,7 @@
 
 use crate::arguments::{Arguments, ALL};
 use crate::calendar::Instant;
+use crate::edition::CENTRE;
 use crate::exact::reduce;
 use crate::fieldbook::{reduction, Body, Fields, Reduction};
 use crate::horizon::{Components, HorizonAngles};
@@ -9,8 +10,9 @@ use crate::options::Options;
 use crate::polaris::Polaris;
 use crate::refusal::Refusal;
 use crate::rotation::Direction;
+use crate::series::sum;
 use crate::sine::Sine;
-use crate::sun::Sun;
+use crate::sun::{Sun, ABERRATION};
 
 /// The vectors' names of the arguments, in the order of `ALL`.
 const ARGUMENT_NAMES: [&str; 15] =
@@ -39,7 +41,7 @@ pub fn parts(sine: &Sine, fields: &Fields, options: Options) -> Result<String, R
     time(&mut listing, &shot);
     orientation(&mut listing, &shot);
     match &shot.body {
-        Body::Sun(place) => sun(&mut listing, place),
+        Body::Sun(place) => sun(&mut listing, sine, &shot, place),
         Body::Polaris(place) => polaris(&mut listing, place),
     }
     listing.direction("vector", shot.body.direction());
@@ -70,12 +72,12 @@ fn orientation(listing: &mut Listing, shot: &Reduction) {
     listing.number("sidereal", frame.sidereal_time);
 }
 
-/// The Sun's sums, distance, aberration and longitude.
-fn sun(listing: &mut Listing, place: &Sun) {
+/// The Sun's sums and longitude.
+fn sun(listing: &mut Listing, sine: &Sine, shot: &Reduction, place: &Sun) {
+    let centre = sum(sine, &[&CENTRE], &shot.arguments, shot.instant.ephemeris.millionths);
     listing.number("first_sum", place.first_sum);
-    listing.number("centre", place.centre);
-    listing.number("r", place.radius_vector);
-    listing.number("aberration", place.aberration);
+    listing.number("centre", centre);
+    listing.number("aberration", ABERRATION);
     listing.number("s", place.apparent_longitude);
 }
 

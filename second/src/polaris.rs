@@ -25,8 +25,7 @@ const ZETA: [i64; 2] = [23_052_970, 3_020];
 const Z_EXCESS: i64 = 7_910;
 /// theta: 2004.682 - 0.853 * 0.75 seconds = 20,040,422.5, halves up; -0.426 (004).
 const THETA: [i64; 2] = [20_040_423, -4_260];
-/// Stellar aberration, 20.496 seconds in radians times R, 99,367.4 (01), which request 9 leaves
-/// steady.
+/// Stellar aberration, 20.496 seconds in radians times R, 99,367.4 (01).
 const ABERRATION: i64 = 99_367;
 
 /// The place of Polaris at an epoch, with its steps.

@@ -4,7 +4,7 @@
 use crate::counts::{answered_or, Outcome};
 use crate::fieldbook::{shot, Fields};
 use crate::lines::{all_numbers, joined, vector_numbers};
-use crate::options::{Options, EDITION, EDITION_AND_LIMB};
+use crate::options::Options;
 use crate::pointing::pointing;
 use crate::random::{pointing_numbers, shot_numbers, Random};
 use crate::random_choices::lists;
@@ -13,14 +13,11 @@ use crate::refusal::Refusal;
 use crate::short_series::cost;
 use crate::sine::Sine;
 use crate::spread::{choose, spread};
-use std::fmt::Debug;
 
 /// A question that is made of numbers alone.
-pub trait Question: Sized + Debug {
+pub trait Question: Sized {
     /// The values of an answer, in the order of the C interface.
     type Values: AsRef<[u64]> + Copy;
-    /// How many of them an answer of the vectors has, the first ones.
-    const IN_VECTORS: usize;
     /// The values that stand with a refusal.
     const REFUSED: Self::Values;
 
@@ -32,6 +29,9 @@ pub trait Question: Sized + Debug {
 
     /// The question of a line's numbers, or refusal 14.
     fn from_numbers(numbers: &[i64]) -> Result<Self, Refusal>;
+
+    /// The numbers of its line.
+    fn numbers(&self) -> Vec<i64>;
 
     /// This program's answer.
     fn answer(&self, sine: &Sine) -> Result<Self::Values, Refusal>;
@@ -58,33 +58,23 @@ pub trait Question: Sized + Debug {
     }
 }
 
-/// A question that a batch program is asked, a line for each, with options at the end.
+/// A question that a batch program is asked, a line for each, with its options at the end.
 pub trait BatchQuestion: Question {
-    /// The word in front of each value of the program's answer, which may lack the last ones.
+    /// The word in front of each value of the program's answer.
     const NAMES: &'static [&'static str];
-    /// How many options a line has at most; those that have their defaults it may leave out.
-    const OPTIONS: usize;
 
-    /// The outcomes that lines must reach: those of the questions, where a line can ask them all.
-    fn outcomes_of_lines() -> Vec<Outcome> {
-        Self::outcomes()
+    /// The defaults of these options, which a line may leave out.
+    fn defaults() -> Vec<i64> {
+        Options::default().numbers()
     }
-
-    /// The numbers of its line, with as many options as that has.
-    fn numbers(&self) -> Vec<i64>;
 }
 
 /// A library's answer: the refusal's number, 0 for none, and the values.
 pub type LibraryAnswer<Q> = (u64, <Q as Question>::Values);
 
-/// A library's answer: the refusal's number, then all values.
-pub fn answer_text<Q: Question>((refusal, values): &LibraryAnswer<Q>) -> String {
+/// A library's answer as the vectors have it: the refusal's number, then the values.
+pub fn answer_text((refusal, values): &(u64, impl AsRef<[u64]>)) -> String {
     format!("{refusal} {}", joined(values.as_ref()))
-}
-
-/// A library's answer as the vectors have it.
-pub fn vector_text<Q: Question>((refusal, values): &LibraryAnswer<Q>) -> String {
-    format!("{refusal} {}", joined(&values.as_ref()[..Q::IN_VECTORS]))
 }
 
 /// The question of a batch program's line, or refusal 14.
@@ -105,13 +95,11 @@ pub struct Shot {
 }
 
 impl Question for Shot {
-    /// Four angles and r.
-    type Values = [u64; 5];
-    const IN_VECTORS: usize = 4;
-    const REFUSED: [u64; 5] = [0; 5];
+    type Values = [u64; 4];
+    const REFUSED: [u64; 4] = [0; 4];
 
     fn outcomes() -> Vec<Outcome> {
-        answered_or((2..=8).chain([17, 19, 20]))
+        answered_or((2..=8).chain([17, 19]))
     }
 
     fn random(random: &mut Random, sine: &Sine) -> Self {
@@ -120,29 +108,21 @@ impl Question for Shot {
     }
 
     fn from_numbers(numbers: &[i64]) -> Result<Self, Refusal> {
-        let (fields, options) = Options::behind(numbers, EDITION)?;
+        let (fields, options) = Options::behind(numbers)?;
         Ok(Shot { fields, options })
     }
 
-    fn answer(&self, sine: &Sine) -> Result<[u64; 5], Refusal> {
-        shot(sine, &self.fields, self.options).map(|answer| answer.words())
+    fn numbers(&self) -> Vec<i64> {
+        [self.fields.as_slice(), &self.options.numbers()].concat()
+    }
+
+    fn answer(&self, sine: &Sine) -> Result<[u64; 4], Refusal> {
+        shot(sine, &self.fields, self.options).map(|angles| angles.words())
     }
 }
 
 impl BatchQuestion for Shot {
     const NAMES: &'static [&'static str] = &["az", "zd", "ha", "s"];
-    const OPTIONS: usize = EDITION;
-
-    /// No line of a shot names a limb.
-    fn outcomes_of_lines() -> Vec<Outcome> {
-        let mut outcomes = Self::outcomes();
-        outcomes.retain(|&outcome| outcome != Outcome::Refused(20));
-        outcomes
-    }
-
-    fn numbers(&self) -> Vec<i64> {
-        [self.fields.as_slice(), &self.options.numbers()[..Self::OPTIONS]].concat()
-    }
 }
 
 /// A pointing with eleven numbers, the horizontal angle and the options of its shot.
@@ -155,7 +135,6 @@ pub struct Pointing {
 
 impl Question for Pointing {
     type Values = [u64; 1];
-    const IN_VECTORS: usize = 1;
     const REFUSED: [u64; 1] = [0];
 
     fn outcomes() -> Vec<Outcome> {
@@ -168,8 +147,12 @@ impl Question for Pointing {
     }
 
     fn from_numbers(numbers: &[i64]) -> Result<Self, Refusal> {
-        let ([fields @ .., angle], options) = Options::behind::<12>(numbers, EDITION_AND_LIMB)?;
+        let ([fields @ .., angle], options) = Options::behind::<12>(numbers)?;
         Ok(Pointing { fields, angle, options })
+    }
+
+    fn numbers(&self) -> Vec<i64> {
+        [self.fields.as_slice(), &[self.angle], &self.options.numbers()].concat()
     }
 
     fn answer(&self, sine: &Sine) -> Result<[u64; 1], Refusal> {
@@ -179,11 +162,6 @@ impl Question for Pointing {
 
 impl BatchQuestion for Pointing {
     const NAMES: &'static [&'static str] = &["mark"];
-    const OPTIONS: usize = EDITION_AND_LIMB;
-
-    fn numbers(&self) -> Vec<i64> {
-        [self.fields.as_slice(), &[self.angle], &self.options.numbers()].concat()
-    }
 }
 
 /// Both editions of the Sun's series at the instant of fields 1 to 7 and 11.
@@ -194,7 +172,6 @@ pub struct Editions {
 
 impl Question for Editions {
     type Values = [u64; 4];
-    const IN_VECTORS: usize = 4;
     const REFUSED: [u64; 4] = [0; 4];
 
     fn outcomes() -> Vec<Outcome> {
@@ -209,6 +186,10 @@ impl Question for Editions {
         Ok(Editions { fields: numbers.try_into().map_err(|_| Refusal::MalformedLine)? })
     }
 
+    fn numbers(&self) -> Vec<i64> {
+        self.fields.to_vec()
+    }
+
     fn answer(&self, sine: &Sine) -> Result<[u64; 4], Refusal> {
         cost(sine, &self.fields).map(|cost| cost.words())
     }
@@ -216,10 +197,10 @@ impl Question for Editions {
 
 impl BatchQuestion for Editions {
     const NAMES: &'static [&'static str] = &["short", "full", "apart", "bound"];
-    const OPTIONS: usize = 0;
 
-    fn numbers(&self) -> Vec<i64> {
-        self.fields.to_vec()
+    /// It has no options.
+    fn defaults() -> Vec<i64> {
+        vec![]
     }
 }
 
@@ -242,7 +223,6 @@ fn list<'a>(numbers: &mut &'a [i64]) -> Result<&'a [i64], Refusal> {
 impl Question for Choice {
     /// The list's number and its length.
     type Values = [u64; 2];
-    const IN_VECTORS: usize = 2;
     const REFUSED: [u64; 2] = [1, 0];
 
     fn outcomes() -> Vec<Outcome> {
@@ -261,6 +241,11 @@ impl Question for Choice {
             return Err(Refusal::MalformedLine);
         }
         Ok(Choice { first: first.to_vec(), second: second.to_vec() })
+    }
+
+    fn numbers(&self) -> Vec<i64> {
+        let counts = [self.first.len() as i64, self.second.len() as i64];
+        [&counts[..1], &self.first, &counts[1..], &self.second].concat()
     }
 
     fn answer(&self, _sine: &Sine) -> Result<[u64; 2], Refusal> {

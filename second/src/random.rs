@@ -5,10 +5,8 @@ use crate::angle::angle;
 use crate::calendar::LARGEST_DELTA_T;
 use crate::edition::{FULL, SHORT};
 use crate::exact::{reduce, square_root, QUADRANT, SCALE, TURN};
-use crate::fieldbook::{reduction, Fields, Reduction, LARGEST_LATITUDE, LARGEST_LONGITUDE};
-use crate::limb::{CENTRE, LEFT, RIGHT};
+use crate::fieldbook::{reduction, shot, Fields, Reduction, LARGEST_LATITUDE, LARGEST_LONGITUDE};
 use crate::options::Options;
-use crate::pointing::pointing;
 use crate::refusal::Refusal;
 use crate::rotation::Direction;
 use crate::sine::Sine;
@@ -101,28 +99,6 @@ const NO_EDITIONS: [i64; 14] = [
     i64::MAX,
 ];
 
-/// Numbers of no limb; some have the low bits of one.
-const NO_LIMBS: [i64; 18] = [
-    0,
-    4,
-    -1,
-    -2,
-    -3,
-    256 + 1,
-    256 + 2,
-    256 + 3,
-    (1 << 32) + 1,
-    (1 << 32) + 2,
-    (1 << 32) + 3,
-    -999_999_999_999_999_999,
-    999_999_999_999_999_999,
-    i64::MIN,
-    i64::MIN + 1,
-    i64::MIN + 2,
-    i64::MIN + 3,
-    i64::MAX,
-];
-
 /// Dates around every rule of the calendar.
 const EDGE_DATES: [[i64; 3]; 28] = [
     [1975, 12, 31],
@@ -155,21 +131,14 @@ const EDGE_DATES: [[i64; 3]; 28] = [
     [1900, 2, 29],
 ];
 
-/// Options: the two editions about as often, the centre as often as both limbs of the Sun, which
-/// Polaris does not have, and of each one in eight that is unknown.
+/// Options: the two editions about as often, and one in eight that is unknown.
 pub fn random_options(random: &mut Random) -> Options {
-    let edition = option(random, &[SHORT, FULL], &NO_EDITIONS);
-    let limb = option(random, &[CENTRE, CENTRE, LEFT, RIGHT], &NO_LIMBS);
-    Options { edition, limb }
-}
-
-/// The number of an option: one of the known ones, of the unknown ones or, rarely, of any size.
-fn option(random: &mut Random, known: &[i64], unknown: &[i64]) -> i64 {
-    match random.between(0, 31) {
-        0..=2 => random.choose(unknown),
-        3 => any_size(random),
-        _ => random.choose(known),
-    }
+    let edition = match random.between(0, 15) {
+        0 => random.choose(&NO_EDITIONS),
+        1 => any_size(random),
+        _ => random.choose(&[SHORT, FULL]),
+    };
+    Options { edition }
 }
 
 /// A shot and its options.
@@ -193,15 +162,15 @@ pub fn shot_fields(random: &mut Random, sine: &Sine, options: Options) -> Fields
     }
 }
 
-/// A shot, a horizontal angle, which is any, at a limit, out of range, or one unit or less from
-/// where the mark is due north, and the shot's options.
+/// A shot, a horizontal angle, which is any, at a limit, out of range, or one unit or less from the
+/// azimuth of the body, and the shot's options.
 pub fn pointing_numbers(random: &mut Random, sine: &Sine) -> (Fields, i64, Options) {
     let (fields, options) = shot_numbers(random, sine);
     let angle = match random.between(0, 5) {
         0 => random.choose(&[-1, 0, 1, TURN - 1, TURN, TURN + 1]),
         1 => random.choose(&EXTREMES),
         2 => any_size(random),
-        3 => pointing(sine, &fields, 0, options).unwrap_or_default() + random.between(-1, 1),
+        3 => shot(sine, &fields, options).unwrap_or_default().azimuth + random.between(-1, 1),
         _ => random.between(0, TURN - 1),
     };
     (fields, angle, options)
@@ -306,11 +275,10 @@ pub fn any_numbers(random: &mut Random) -> Fields {
     fields
 }
 
-/// Accepted numbers worked by the shot's edition, or by the short one where that is refused; the
-/// limb moves no body.
+/// Accepted numbers worked by the shot's options, or by the defaults where these are refused.
 fn worked(sine: &Sine, fields: &Fields, options: Options) -> Result<Reduction, Refusal> {
-    let by = |edition| reduction(sine, fields, Options { edition, ..Options::default() });
-    by(options.edition).or_else(|_| by(SHORT))
+    let by = |options| reduction(sine, fields, options);
+    by(options).or_else(|_| by(Options::default()))
 }
 
 /// Right ascension and declination of a direction.

@@ -1,4 +1,4 @@
-//! The refusals. Document 01, "Refusal numbers", and document 02, requests 1, 3, 6, 7 and 9.
+//! The refusals. Document 01, "Refusal numbers", and document 02, requests 1, 3, 6 and 7.
 
 /// A refusal; its number in the documents is its value.
 #[derive(Clone, Copy, Debug, PartialEq, Eq)]
@@ -22,7 +22,6 @@ pub enum Refusal {
     DeltaTOutOfRange = 17,
     NothingToUndo = 18,
     NoSuchEdition = 19,
-    NoSuchLimb = 20,
 }
 
 impl Refusal {

@@ -9,11 +9,11 @@ use crate::card::{Card, Field};
 use crate::edition::Edition;
 use crate::frame::frame;
 use crate::lines::{all_numbers, joined, number, numbers, words, MOST_DIGITS};
-use crate::options::{Options, EDITION, EDITION_AND_LIMB};
+use crate::options::Options;
 use crate::parts::parts;
 use crate::pointing::pointing_from_card;
 use crate::polynomial::Polynomial;
-use crate::question::{asked, asked_by_vector, vector_text, BatchQuestion, Question, Shot};
+use crate::question::{answer_text, asked, asked_by_vector, BatchQuestion, Question};
 use crate::refusal::Refusal;
 use crate::sine::Sine;
 use crate::sun::{polynomial_longitude, sun};
@@ -37,12 +37,12 @@ pub fn batch_line<Q: BatchQuestion>(sine: &Sine, line: &[u8]) -> String {
 
 /// The numbers of a vector's question -> the refusal's number, 0 for none, and the answer's values.
 pub fn question_line<Q: Question>(sine: &Sine, line: &[u8]) -> Result<String, Refusal> {
-    Ok(vector_text::<Q>(&Q::as_library(asked_by_vector::<Q>(line)?.answer(sine))))
+    Ok(answer_text(&Q::as_library(asked_by_vector::<Q>(line)?.answer(sine))))
 }
 
 /// Eleven numbers, and the edition unless it is 1 -> every step by name.
 pub fn parts_line(sine: &Sine, line: &[u8]) -> Result<String, Refusal> {
-    let (fields, options) = Options::behind(&all_numbers(line)?, EDITION)?;
+    let (fields, options) = Options::behind(&all_numbers(line)?)?;
     parts(sine, &fields, options)
 }
 
@@ -66,20 +66,20 @@ pub fn longitude_line(
     bounds: &LongitudeBounds,
     line: &[u8],
 ) -> Result<String, Refusal> {
-    let (fields, options) = Options::behind(&all_numbers(line)?, EDITION)?;
+    let (fields, options) = Options::behind(&all_numbers(line)?)?;
     let instant = instant(&fields)?;
     let edition = Edition::from_number(options.edition)?;
     let q = instant.ephemeris.millionths;
     let arguments = Arguments::at(&instant.ephemeris, &ALL);
     let frame = frame(sine, &instant, &arguments);
-    let place = sun(sine, edition, &arguments, q, &frame);
-    let exact = polynomial_longitude(polynomial, edition, &arguments, q, place.aberration);
-    Ok(joined(&[place.apparent_longitude, exact, bounds.of(edition)]))
+    let s = sun(sine, edition, &arguments, q, &frame).apparent_longitude;
+    let exact = polynomial_longitude(polynomial, edition, &arguments, q);
+    Ok(joined(&[s, exact, bounds.of(edition)]))
 }
 
 /// One call on the card: `fresh`, `old` (the start before request 4), `hear F N`,
-/// `read F PLACE BUFFER`, `confirm F`, `undo`, `shot`, which has no options, or `pointing A` with
-/// its edition and its limb unless they are 1 -> what it returned, then the card's fields.
+/// `read F PLACE BUFFER`, `confirm F`, `undo`, `shot` or `pointing A`, these two without options ->
+/// what it returned, then the card's fields.
 pub fn card_line(sine: &Sine, card: &mut Card, line: &[u8]) -> Result<String, Refusal> {
     card_line_by(&mut |call, card, buffer| call.answer(sine, card, buffer), sine, card, line)
 }
@@ -100,44 +100,28 @@ pub fn card_line_by(
             *card = Card::fresh_with_dut1_assumed_zero();
             String::new()
         }
-        [b"pointing", ref words @ ..] => {
-            let numbers: Result<Vec<i64>, Refusal> =
-                words.iter().map(|word| number(word, MOST_DIGITS)).collect();
-            let ([angle], options) = Options::behind(&numbers?, EDITION_AND_LIMB)?;
-            pointing_call(sine, card, angle, options)
-        }
+        [b"pointing", angle] => pointing_call(sine, card, number(angle, MOST_DIGITS)?),
         _ => returned(make, card, &Call::from_words(&words)?),
     };
     let fields: Vec<String> = card.fields().iter().map(field_text).collect();
     Ok(format!("{returned}| {}", fields.join(" ")))
 }
 
-/// An answer to a call on the card without the four angles of an answered shot of the Sun, whose s
-/// is not 0 as that of Polaris: request 9 moved them, and card.txt is older.
-pub fn without_angles_of_the_sun(answer: &str) -> String {
-    let words: Vec<&str> = answer.split(' ').collect();
-    match words[..] {
-        ["0", _, _, _, s, "|", ref card @ ..] if s != "0" => format!("0 | {}", card.join(" ")),
-        _ => answer.to_string(),
-    }
-}
-
-/// What a call returns, as card.txt has it: the words of its answer, those of a shot without r, and
-/// behind those of a reading the buffer; a start returns nothing.
+/// What a call returns: the words of its answer, and behind those of a reading the buffer; a start
+/// returns nothing.
 fn returned(make: CardCall, card: &mut Card, call: &Call) -> String {
     let mut buffer = call.buffer().to_vec();
-    let answer = make(call, card, &mut buffer);
+    let answer = joined(&make(call, card, &mut buffer));
     match call {
         Call::Fresh => String::new(),
-        Call::Read { .. } => format!("{} {} ", joined(&answer), to_hex(&buffer)),
-        Call::Shot(_) => format!("{} ", joined(&answer[..=Shot::IN_VECTORS])),
-        _ => format!("{} ", joined(&answer)),
+        Call::Read { .. } => format!("{answer} {} ", to_hex(&buffer)),
+        _ => format!("{answer} "),
     }
 }
 
 /// A pointing from the card: refusal and the mark's azimuth, 0 when refused.
-fn pointing_call(sine: &Sine, card: &Card, angle: i64, options: Options) -> String {
-    let result = pointing_from_card(sine, card, angle, options);
+fn pointing_call(sine: &Sine, card: &Card, angle: i64) -> String {
+    let result = pointing_from_card(sine, card, angle, Options::default());
     let number = result.map_or_else(Refusal::number, |_| 0);
     format!("{number} {} ", result.unwrap_or_default())
 }
@@ -164,29 +148,17 @@ mod tests {
         let mut answer = |line: &str| card_line(&sine, &mut card, line.as_bytes());
         let fresh = "| e e e e e e e e e e e";
         assert_eq!(answer("pointing -1"), Ok(format!("1 0 {fresh}")));
-        let fields = [1979, 9, 5, 21, 54, 8_091, -267, 732_020, 4_418_707, 1, 66_794];
+        let fields = [1980, 7, 4, 14, 41, 3_294, 245, -922_076, -743_081, 1, 115_194];
         for (field, number) in (1..).zip(fields) {
             for call in ["hear F N", "read F 0 000000000000000000000000000000", "confirm F"] {
                 let call = call.replace('F', &format!("{field}"));
                 assert!(answer(&call.replace('N', &format!("{number}"))).is_ok());
             }
         }
-        let confirmed = "| c1979 c9 c5 c21 c54 c8091 c-267 c732020 c4418707 c1 c66794";
-        for line in ["pointing 251", "pointing 251 1", "pointing 251 1 1"] {
-            assert_eq!(answer(line), Ok(format!("0 3030640000 {confirmed}")));
-        }
-        let refused = [
-            ("pointing -1", 15),
-            ("pointing 5 3", 19),
-            ("pointing 5 2 4", 20),
-            ("pointing -1 3 4", 19),
-            ("pointing -1 2 4", 20),
-            ("pointing -1 2 3", 15),
-        ];
-        for (line, refusal) in refused {
-            assert_eq!(answer(line), Ok(format!("{refusal} 0 {confirmed}")));
-        }
-        for line in ["pointing", "pointing  5", "pointing 5 1 1 1", "pointing x", "pointing 5 x"] {
+        let confirmed = "| c1980 c7 c4 c14 c41 c3294 c245 c-922076 c-743081 c1 c115194";
+        assert_eq!(answer("pointing 758"), Ok(format!("0 12170702000 {confirmed}")));
+        assert_eq!(answer("pointing -1"), Ok(format!("15 0 {confirmed}")));
+        for line in ["pointing", "pointing  5", "pointing 5 5", "pointing x"] {
             assert_eq!(answer(line), Err(Refusal::MalformedLine));
         }
     }
@@ -205,9 +177,9 @@ mod tests {
     fn edition_left_out() {
         let (sine, polynomial) = (Sine::new(), Polynomial::new());
         let bounds = LongitudeBounds::new();
-        let shot = "1979 9 5 21 54 8091 -267 732020 4418707 1 66794";
+        let shot = "1980 7 4 14 41 3294 245 -922076 -743081 1 115194";
         let parts = |line: String| parts_line(&sine, line.as_bytes());
-        let instant = "1979 9 5 21 54 8091 -267 66794";
+        let instant = "1980 7 4 14 41 3294 245 115194";
         let longitude = |line: String| longitude_line(&sine, &polynomial, &bounds, line.as_bytes());
         assert!(parts(shot.to_string()).is_ok() && longitude(instant.to_string()).is_ok());
         assert_eq!(parts(shot.to_string()), parts(format!("{shot} 1")));

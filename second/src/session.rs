@@ -1,9 +1,9 @@
 //! The session: lines in, lines out. Document 01, "One session, whole". Its shot has no options:
-//! document 02, requests 7 and 9.
+//! document 02, request 7.
 
 use crate::card::Card;
 use crate::digits::LONGEST;
-use crate::fieldbook::ShotAnswer;
+use crate::fieldbook::Angles;
 use crate::lines::{number, words};
 use crate::options::Options;
 use crate::refusal::Refusal;
@@ -52,8 +52,7 @@ fn accepted(sine: &Sine, card: &mut Card, line: &[u8]) -> Result<Vec<u8>, Refusa
             Ok(buffer[..length].to_vec())
         }
         Command::Shot => {
-            let ShotAnswer { azimuth, zenith_distance, .. } =
-                card.shot(sine, Options::default())?;
+            let Angles { azimuth, zenith_distance, .. } = card.shot(sine, Options::default())?;
             Ok(format!("az {azimuth} zd {zenith_distance}").into_bytes())
         }
     }

@@ -46,7 +46,6 @@ pub fn cost(sine: &Sine, fields: &[i64; 8]) -> Result<Cost, Refusal> {
     let q = instant.ephemeris.millionths;
     let arguments = Arguments::at(&instant.ephemeris, &ALL);
     let frame = frame(sine, &instant, &arguments);
-    // the aberration of both is the same, so that no part of it is in how far they are apart
     let [short, full] = [Edition::Short, Edition::Full]
         .map(|edition| sun(sine, edition, &arguments, q, &frame).apparent_longitude);
     Ok(Cost { short, full, apart: short_way(short, full), bound: LEFT_OUT.absolute_sum(q) })

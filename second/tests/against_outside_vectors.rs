@@ -1,42 +1,31 @@
-//! Every line of the outside vectors in `data/` must agree whole, but for what is older than the
-//! rules: that agrees in `against_older_cards.rs`.
+//! Every line of the outside vectors in `data/` must agree whole: here those of the rules as they
+//! stand, in `against_older_vectors.rs` those that are older than request 5.
 
-#![cfg(not(any(feature = "five_minutes", feature = "steady_aberration")))]
+#![cfg(not(feature = "five_minutes"))]
 
 mod vector_lines;
 
 use second::bound::LongitudeBounds;
 use second::card::Card;
 use second::polynomial::Polynomial;
-use second::question::{asked_by_vector, Choice, Pointing, Shot};
+use second::question::{asked_by_vector, Choice, Shot};
 use second::refusal::Refusal;
 use second::replay;
 use second::sine::Sine;
 use second::spread::{choose, Chosen};
-use vector_lines::{agree, agree_in};
+use vector_lines::agree;
 
 #[test]
 fn shot_vectors() {
     let sine = Sine::new();
-    agree(include_str!("data/shot.txt"), 1_979, |line| replay::question_line::<Shot>(&sine, line));
+    agree(include_str!("data/shot.txt"), 1_987, |line| replay::question_line::<Shot>(&sine, line));
 }
 
-#[test]
-fn pointing_vectors() {
-    let sine = Sine::new();
-    agree(include_str!("data/pointing.txt"), 500, |line| {
-        replay::question_line::<Pointing>(&sine, line)
-    });
-}
-
-/// These are older than request 9: in all but the angles of the Sun.
 #[test]
 fn card_vectors() {
     let sine = Sine::new();
     let mut card = Card::fresh();
-    agree_in(replay::without_angles_of_the_sun, include_str!("data/card.txt"), 2_249, |line| {
-        replay::card_line(&sine, &mut card, line)
-    });
+    agree(include_str!("data/card.txt"), 2_249, |line| replay::card_line(&sine, &mut card, line));
 }
 
 #[test]

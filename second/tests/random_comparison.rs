@@ -13,12 +13,10 @@ use second::compare::{
 };
 use second::counts::{Counts, Outcome, LEAST};
 use second::digits::LONGEST;
-use second::exact::TURN;
 use second::lent_cards::{
     call_on_words, compare_card_vectors, compare_lent_cards, compare_own_cards,
     outcomes_of_lent_cards, outcomes_of_own_cards, NO_CARD,
 };
-use second::limb::{CENTRE, LEFT, RIGHT};
 use second::many_shots::compare_many_shots;
 use second::options::Options;
 use second::question::{BatchQuestion, Choice, Editions, Pointing, Question, Shot};
@@ -27,10 +25,9 @@ use second::replay::card_line;
 use second::session;
 use second::sine::Sine;
 use std::cell::Cell;
-use std::collections::BTreeMap;
 
 /// For what is rare in a history of calls.
-const CARDS: u64 = 400_000;
+const CARDS: u64 = 200_000;
 
 /// A library that answers as this program does agrees, and every outcome is reached.
 fn reaches_every_outcome<Q: Question>() {
@@ -50,11 +47,11 @@ fn libraries_reach_every_outcome() {
 /// The answers of many shots, worked one by one: each written to its words, and how many there are.
 fn one_by_one(sine: &Sine, rows: &[i64], words: &mut [u64], options: Options) -> u64 {
     let mut answered = 0;
-    for (row, words) in rows.chunks_exact(11).zip(words.chunks_exact_mut(6)) {
+    for (row, words) in rows.chunks_exact(11).zip(words.chunks_exact_mut(5)) {
         let shot = Shot { fields: row.try_into().expect("eleven numbers"), options };
-        let (refusal, values) = Shot::as_library(shot.answer(sine));
+        let (refusal, angles) = Shot::as_library(shot.answer(sine));
         words[0] = refusal;
-        words[1..].copy_from_slice(&values);
+        words[1..].copy_from_slice(&angles);
         answered += 1;
     }
     answered
@@ -66,7 +63,7 @@ fn changed_behind(change: impl Fn(&[i64], &mut [u64], &mut u64)) -> Result<Count
     let sine = Sine::new();
     let library = |rows: &[i64], words: &mut [u64], options: Options| {
         let mut answered = one_by_one(&sine, rows, words, options);
-        change(rows, &mut words[6 * answered as usize..], &mut answered);
+        change(rows, &mut words[5 * answered as usize..], &mut answered);
         answered
     };
     compare_many_shots(&sine, (1, COUNT), &library)
@@ -99,8 +96,10 @@ fn many_shots_that_differ_are_found() {
     assert!(all_rows_counted.is_err());
     assert!(options_taken_for(|options| options).is_ok());
     assert!(options_taken_for(|_| Options::default()).is_err());
-    for change in options_taken_for_others() {
-        assert!(options_taken_for(change).is_err());
+    for change in EDITIONS_TAKEN_FOR {
+        let other_edition =
+            options_taken_for(|options| Options { edition: change(options.edition) });
+        assert!(other_edition.is_err());
     }
 }
 
@@ -117,97 +116,27 @@ const EDITIONS_TAKEN_FOR: [fn(i64) -> i64; 8] = [
     |edition| edition & i64::MAX,
 ];
 
-/// Ways to take a limb for another: the centre for one or one for it, which is seen where Polaris
-/// is sighted, an unknown one for a neighbour, or what is left of it in few bits.
-const LIMBS_TAKEN_FOR: [fn(i64) -> i64; 9] = [
-    |limb| if limb == LEFT { CENTRE } else { limb },
-    |limb| if limb == RIGHT { CENTRE } else { limb },
-    |limb| if limb == CENTRE { LEFT } else { limb },
-    |limb| if limb == 0 { CENTRE } else { limb },
-    |limb| if limb == 4 { RIGHT } else { limb },
-    |limb| if limb == -2 { LEFT } else { limb },
-    |limb| i64::from(limb as u8),
-    |limb| i64::from(limb as i32),
-    |limb| limb & i64::MAX,
-];
-
-/// All these ways to take options for others.
-fn options_taken_for_others() -> impl Iterator<Item = impl Fn(Options) -> Options> {
-    let same: fn(i64) -> i64 = |number| number;
-    let editions = EDITIONS_TAKEN_FOR.iter().map(move |&change| (change, same));
-    let limbs = LIMBS_TAKEN_FOR.iter().map(move |&change| (same, change));
-    editions.chain(limbs).map(|(of_edition, of_limb)| {
-        move |options: Options| Options {
-            edition: of_edition(options.edition),
-            limb: of_limb(options.limb),
-        }
-    })
-}
-
-/// A library's pointings that take some options for others.
-fn pointings_taken_for(by: impl Fn(Options) -> Options) -> Result<Counts, String> {
-    let sine = Sine::new();
-    changed::<Pointing>(|pointing, answer| {
-        let taken = Pointing { options: by(pointing.options), ..*pointing };
-        *answer = Pointing::as_library(taken.answer(&sine));
-    })
-}
-
-/// An option that is taken for another is found by shots, by pointings and by shots from cards.
+/// An edition that is taken for another is found by shots, by pointings and by shots from cards.
 #[test]
-fn an_option_taken_for_another_is_found() {
+fn an_edition_taken_for_another_is_found() {
     let sine = Sine::new();
-    for by in options_taken_for_others() {
+    for change in EDITIONS_TAKEN_FOR {
+        let by = |options: Options| Options { edition: change(options.edition) };
         let shots = changed::<Shot>(|shot, answer| {
             let taken = Shot { options: by(shot.options), ..*shot };
             *answer = Shot::as_library(taken.answer(&sine));
         });
         assert!(shots.is_err());
-        assert!(pointings_taken_for(&by).is_err());
+        let pointings = changed::<Pointing>(|pointing, answer| {
+            let taken = Pointing { options: by(pointing.options), ..*pointing };
+            *answer = Pointing::as_library(taken.answer(&sine));
+        });
+        assert!(pointings.is_err());
         let cards = compare_lent_cards(&sine, (1, CARDS), &mut |call, words, buffer| match *call {
             Call::Shot(options) => call_on_words(&sine, &Call::Shot(by(options)), words, buffer),
             _ => call_on_words(&sine, call, words, buffer),
         });
         assert!(cards.is_err());
-    }
-}
-
-/// What a library may get wrong of the limb in a pointing that it must answer, and of its angle,
-/// which is tested as it is given.
-#[test]
-fn a_limb_that_differs_is_found() {
-    let exchanged = pointings_taken_for(|options| match options.limb {
-        LEFT => Options { limb: RIGHT, ..options },
-        RIGHT => Options { limb: LEFT, ..options },
-        _ => options,
-    });
-    assert!(exchanged.is_err());
-    let by_the_hemisphere = changed::<Pointing>(|pointing, answer| {
-        let limb = match pointing.options.limb {
-            LEFT if pointing.fields[7] < 0 => RIGHT,
-            RIGHT if pointing.fields[7] < 0 => LEFT,
-            limb => limb,
-        };
-        let taken = Pointing { options: Options { limb, ..pointing.options }, ..*pointing };
-        *answer = Pointing::as_library(taken.answer(&Sine::new()));
-    });
-    assert!(by_the_hemisphere.is_err());
-    for (limb, end) in [(LEFT, TURN - 1), (RIGHT, 0)] {
-        let refused_beyond_the_end = changed::<Pointing>(|pointing, answer| {
-            if answer.0 == 0 && pointing.options.limb == limb && pointing.angle == end {
-                *answer = (15, Pointing::REFUSED);
-            }
-        });
-        assert!(refused_beyond_the_end.is_err());
-    }
-    for (limb, beyond, end) in [(LEFT, -1, 0), (RIGHT, TURN, TURN - 1)] {
-        let answered_from_beyond = changed::<Pointing>(|pointing, answer| {
-            if answer.0 == 15 && pointing.options.limb == limb && pointing.angle == beyond {
-                *answer =
-                    Pointing::as_library(Pointing { angle: end, ..*pointing }.answer(&Sine::new()));
-            }
-        });
-        assert!(answered_from_beyond.is_err());
     }
 }
 
@@ -217,18 +146,10 @@ fn a_library_that_differs_is_found() {
         angles[3] += u64::from(*number == 0 && shot.fields[0] == 2049);
     });
     assert!(late.is_err());
-    for value in 0..5 {
-        let refused_with_a_value = changed::<Shot>(|_, (number, values)| {
-            values[value] += u64::from(*number == 8);
-        });
-        assert!(refused_with_a_value.is_err());
-        for body in [1, 2] {
-            let one_more = changed::<Shot>(|shot, (number, values)| {
-                values[value] += u64::from(*number == 0 && shot.fields[9] == body);
-            });
-            assert!(one_more.is_err());
-        }
-    }
+    let refused_with_an_angle = changed::<Shot>(|_, (number, angles)| {
+        angles[3] += u64::from(*number == 8);
+    });
+    assert!(refused_with_an_angle.is_err());
     let delta_t_before_dut1 = changed::<Shot>(|shot, (number, _)| {
         if *number == 4 && !(0..=120_000).contains(&shot.fields[10]) {
             *number = 17;
@@ -248,57 +169,36 @@ fn a_library_that_differs_is_found() {
         }
     });
     assert!(edition_before_body.is_err());
-    let has_limb = |shot: &Shot| match shot.fields[9] {
-        1 => (1..=3).contains(&shot.options.limb),
-        _ => shot.options.limb == 1,
-    };
-    let limb_before_edition = changed::<Shot>(|shot, (number, _)| {
-        if *number == 19 && !has_limb(shot) {
-            *number = 20;
+    let sine = Sine::new();
+    for behind in [7, 8] {
+        let edition_behind = changed::<Shot>(|shot, (number, _)| {
+            let known = Shot { options: Options::default(), ..*shot };
+            if *number == 19 && Shot::as_library(known.answer(&sine)).0 == behind {
+                *number = behind;
+            }
+        });
+        assert!(edition_behind.is_err());
+    }
+    let no_edition_of_polaris = changed::<Shot>(|shot, answer| {
+        if answer.0 == 19 && shot.fields[9] == 2 {
+            *answer = Shot::as_library(Shot { options: Options::default(), ..*shot }.answer(&sine));
         }
     });
-    assert!(limb_before_edition.is_err());
-    let sine = Sine::new();
-    let by_defaults =
-        |shot: &Shot| Shot::as_library(Shot { options: Options::default(), ..*shot }.answer(&sine));
-    for option in [19, 20] {
-        for behind in [7, 8] {
-            let option_behind = changed::<Shot>(|shot, (number, _)| {
-                if *number == option && by_defaults(shot).0 == behind {
-                    *number = behind;
-                }
-            });
-            assert!(option_behind.is_err());
-        }
-        let no_option_of_polaris = changed::<Shot>(|shot, answer| {
-            if answer.0 == option && shot.fields[9] == 2 {
-                *answer = by_defaults(shot);
-            }
-        });
-        assert!(no_option_of_polaris.is_err());
-        let angle_before_option = changed::<Pointing>(|pointing, (number, _)| {
-            if *number == option && !(0..TURN).contains(&pointing.angle) {
-                *number = 15;
-            }
-        });
-        assert!(angle_before_option.is_err());
-    }
+    assert!(no_edition_of_polaris.is_err());
     let polaris_refused = changed::<Shot>(|shot, answer| {
         if answer.0 == 0 && shot.fields[9] == 2 && shot.options.edition == 2 {
             *answer = (19, Shot::REFUSED);
         }
     });
     assert!(polaris_refused.is_err());
-    for limb in [LEFT, RIGHT] {
-        let no_limb_of_a_shot = changed::<Shot>(|shot, answer| {
-            if answer.0 == 0 && shot.options.limb == limb {
-                *answer = (20, Shot::REFUSED);
-            }
-        });
-        assert!(no_limb_of_a_shot.is_err());
-    }
+    let angle_before_edition = changed::<Pointing>(|pointing, (number, _)| {
+        if *number == 19 && !(0..12_960_000_000).contains(&pointing.angle) {
+            *number = 15;
+        }
+    });
+    assert!(angle_before_edition.is_err());
     let turn_for_north = changed::<Pointing>(|_, (number, mark)| {
-        mark[0] += if *number == 0 && mark[0] == 0 { TURN as u64 } else { 0 };
+        mark[0] += if *number == 0 && mark[0] == 0 { 12_960_000_000 } else { 0 };
     });
     assert!(turn_for_north.is_err());
     let longest_refused = changed::<Choice>(|choice, answer| {
@@ -330,66 +230,35 @@ fn batches_reach_every_outcome() {
     batch_reaches_every_outcome::<Editions>();
 }
 
-/// Many lines of the form end with each of some lists of options; other lines have too few numbers
-/// or too many.
-fn batch_has_lines_of_each_length<Q: BatchQuestion>(fewest: usize, options: &[&str]) {
+/// Of the answered lines many lack the first edition, many name it and many the second; other lines
+/// have too few numbers or too many.
+fn batch_has_lines_of_each_length<Q: BatchQuestion>(fewest: usize) {
     let sine = Sine::new();
     let input = random_batch::<Q>(&sine, 1, COUNT);
     let answers = batch_answers::<Q>(&sine, &input);
-    let (mut named, mut wrong): (BTreeMap<String, u64>, u64) = (BTreeMap::new(), 0);
+    let (mut without, mut first, mut second, mut wrong) = (0, 0, 0, 0);
     let [input, answers] = [input, answers].map(|text| String::from_utf8(text).unwrap());
     for (line, answer) in input.lines().zip(answers.lines()) {
         let numbers: Vec<&str> = line.split(' ').collect();
         match numbers.get(fewest..) {
-            Some(behind) if behind.len() <= Q::OPTIONS => {
-                *named.entry(behind.join(" ")).or_default() += u64::from(answer != "no 14");
-            }
+            Some([]) => without += u64::from(answer != "no 14"),
+            Some(["1"]) => first += u64::from(answer != "no 14"),
+            Some(["2"]) => second += u64::from(answer != "no 14"),
+            Some([_]) => {}
             _ => {
                 assert_eq!(answer, "no 14", "{line}");
                 wrong += 1;
             }
         }
     }
-    for &options in options {
-        assert!(named.get(options) > Some(&500), "{options}");
-    }
+    assert!([without, first, second].iter().all(|&count| count > 1_000));
     assert!(wrong > 10);
 }
 
-/// An edition, and an edition and a limb, are left out or named, and the known ones are all named.
 #[test]
 fn batches_have_lines_of_each_length() {
-    let editions = ["", "1", "2"];
-    batch_has_lines_of_each_length::<Shot>(11, &editions);
-    let limbs = ["1 1", "1 2", "1 3", "2 1", "2 2", "2 3"];
-    batch_has_lines_of_each_length::<Pointing>(12, &[&editions[..], &limbs].concat());
-}
-
-/// The comparison of the answers to a random batch with those of a program that takes no more than
-/// `most` numbers of a line.
-fn numbers_passed_over<Q: BatchQuestion>(most: usize) -> Result<(), String> {
-    let sine = Sine::new();
-    let input = random_batch::<Q>(&sine, 1, COUNT);
-    let mut taken = String::new();
-    for line in String::from_utf8_lossy(&input).lines() {
-        let numbers: Vec<&str> = line.split(' ').take(most).collect();
-        taken += &format!("{}\n", numbers.join(" "));
-    }
-    let answers = batch_answers::<Q>(&sine, &input);
-    equal_outputs(&answers, &batch_answers::<Q>(&sine, taken.as_bytes()))
-}
-
-/// An edition or a limb that a program passes over is found, and so is a number too many: behind
-/// the edition of a shot, which has no limb, or behind the limb of a pointing.
-#[test]
-fn numbers_passed_over_are_found() {
-    for most in [11, 12] {
-        assert!(numbers_passed_over::<Shot>(most).is_err());
-    }
-    for most in [12, 13, 14] {
-        assert!(numbers_passed_over::<Pointing>(most).is_err());
-    }
-    assert!(numbers_passed_over::<Shot>(usize::MAX).is_ok());
+    batch_has_lines_of_each_length::<Shot>(11);
+    batch_has_lines_of_each_length::<Pointing>(12);
 }
 
 #[test]
@@ -463,7 +332,7 @@ fn calls_are_counted_by_their_form() {
         b"| e\n0 | h5\n0 1 2 3 4 | c5\n0 1 35 | r5\n11 0 - | h5\n1 0 0 0 0 | e\n0 | e\n18 | e\n";
     let counts = Counts::of_calls(calls, answers);
     assert_eq!(counts.to_string(), "answered 1, undone 1, no 1 1, no 11 1, no 18 1, others 3");
-    let by_edition_2 = Call::Shot(Options { edition: 2, limb: 1 }).to_string();
+    let by_edition_2 = Call::Shot(Options { edition: 2 }).to_string();
     assert_eq!(Outcome::of_call(&by_edition_2, "0 1 2 3 4"), Outcome::Answered);
 }
 
@@ -567,7 +436,7 @@ fn changed_after(
 
 /// The same with a library that takes some words for others.
 fn taken_for(sine: &Sine, change: impl Fn(&mut Vec<i64>)) -> Result<Counts, String> {
-    compare_lent_cards(sine, (1, CARDS), &mut |call, words, buffer| {
+    compare_lent_cards(sine, (1, COUNT), &mut |call, words, buffer| {
         let mut taken = words.to_vec();
         change(&mut taken);
         let answer = call_on_words(sine, call, &mut taken, buffer);
@@ -608,7 +477,7 @@ fn lent_cards_that_differ_are_found() {
         _ => {}
     });
     assert!(refused_hearing_kept.is_err());
-    for refusal in [1, 9, 10, 11, 12, 13, 18, 19, 20, NO_CARD] {
+    for refusal in [1, 9, 10, 11, 12, 13, 18, 19, NO_CARD] {
         let refused_and_written = changed_after(&sine, |_, _, answer, words, _| {
             if answer[0] == refusal {
                 words.iter_mut().take(1).for_each(|word| *word ^= 1);
@@ -616,7 +485,7 @@ fn lent_cards_that_differ_are_found() {
         });
         assert!(refused_and_written.is_err());
     }
-    for refusal in [1, 9, 10, 11, 19, 20, NO_CARD] {
+    for refusal in [1, 9, 10, 11, 19, NO_CARD] {
         let refused_with_a_value = changed_after(&sine, |_, _, answer, _, _| {
             if answer[0] == refusal {
                 answer[1..].fill(1);
@@ -631,19 +500,12 @@ fn lent_cards_that_differ_are_found() {
     });
     assert!(shot_writes.is_err());
     let edition_before_fields = changed_after(&sine, |call, _, answer, _, _| match *call {
-        Call::Shot(options) if answer[0] == 1 && !(1..=2).contains(&options.edition) => {
+        Call::Shot(Options { edition }) if answer[0] == 1 && !(1..=2).contains(&edition) => {
             answer[0] = 19;
         }
         _ => {}
     });
     assert!(edition_before_fields.is_err());
-    let limb_before_fields = changed_after(&sine, |call, _, answer, _, _| match *call {
-        Call::Shot(options) if answer[0] == 1 && !(1..=3).contains(&options.limb) => {
-            answer[0] = 20;
-        }
-        _ => {}
-    });
-    assert!(limb_before_fields.is_err());
     let fresh_tests_words = changed_after(&sine, |call, before, answer, words, _| {
         if *call == Call::Fresh && Card::from_words(before).is_none() {
             answer[0] = NO_CARD;

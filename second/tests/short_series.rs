@@ -1,7 +1,7 @@
 //! What the short series costs: the longitudes of the outside vectors by either edition, the bound
 //! on random instants, and the comparison itself, which finds a library or a program that differs.
 
-#![cfg(not(any(feature = "five_minutes", feature = "steady_aberration")))]
+#![cfg(not(feature = "five_minutes"))]
 
 mod changed_library;
 

@@ -1,5 +1,5 @@
 //! Works the shots of standard input, eleven numbers to a line, all in one call, and prints the
-//! angles and the Sun's radius vector, or the refusal, of each.
+//! angles or the refusal of each.
 //!
 //! usage: many_shots [EDITION]    the edition of the Sun's series, a number; else the short one
 
@@ -29,8 +29,8 @@ fn main() -> Result<(), Box<dyn Error>> {
     for answer in shots(&all, options) {
         match answer {
             Ok(a) => println!(
-                "az {} zd {} ha {} s {} r {}",
-                a.azimuth, a.zenith_distance, a.hour_angle, a.longitude, a.radius_vector
+                "az {} zd {} ha {} s {}",
+                a.azimuth, a.zenith_distance, a.hour_angle, a.longitude
             ),
             Err(refusal) => println!("no {}", refusal as u64),
         }

@@ -2,10 +2,7 @@
 //! angle to a line, with an empty line between the sets. Prints the azimuth of the mark by each in
 //! degrees, minutes and seconds, or the refusal, and at the end which set has the smaller spread.
 //!
-//! usage: pointings [EDITION [LIMB]]
-//!
-//! EDITION: the edition of the Sun's series, a number; else the short one. LIMB: what was sighted, a
-//! number, 2 the Sun's left limb, 3 its right one; else the centre.
+//! usage: pointings [EDITION]    the edition of the Sun's series, a number; else the short one
 
 use fieldbook::{choose, pointing, Numbers, Options};
 use std::env;
@@ -19,15 +16,11 @@ const DEGREE: u64 = 36_000_000;
 const MINUTE: u64 = 600_000;
 const SECOND: u64 = 10_000;
 
-/// The default options, but with the edition that the command's first word names, if any, and the
-/// limb that the second names.
+/// The default options, but with the edition that the command's first word names, if any.
 fn options() -> Result<Options, ParseIntError> {
     let mut options = Options::default();
     if let Some(edition) = env::args().nth(1) {
         options.edition = edition.parse()?;
-    }
-    if let Some(limb) = env::args().nth(2) {
-        options.limb = limb.parse()?;
     }
     Ok(options)
 }

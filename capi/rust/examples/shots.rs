@@ -1,5 +1,5 @@
-//! Works the shots of standard input, eleven numbers to a line, and prints the angles and the Sun's
-//! radius vector, or the refusal, of each.
+//! Works the shots of standard input, eleven numbers to a line, and prints the angles or the
+//! refusal of each.
 //!
 //! usage: shots [EDITION]    the edition of the Sun's series, a number; else the short one
 
@@ -25,8 +25,8 @@ fn main() -> Result<(), Box<dyn Error>> {
         let fields: [i64; 11] = numbers?.try_into().map_err(|_| "a line is eleven numbers")?;
         match shot(&Numbers::from(fields), options) {
             Ok(a) => println!(
-                "az {} zd {} ha {} s {} r {}",
-                a.azimuth, a.zenith_distance, a.hour_angle, a.longitude, a.radius_vector
+                "az {} zd {} ha {} s {}",
+                a.azimuth, a.zenith_distance, a.hour_angle, a.longitude
             ),
             Err(refusal) => println!("no {}", refusal as u64),
         }

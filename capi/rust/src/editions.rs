@@ -58,7 +58,7 @@ impl Instant {
 ///
 /// let instant = Instant::from([2020, 3, 22, 6, 30, 0, 0, 0]);
 /// let e = editions(&instant)?;
-/// assert_eq!((e.short, e.full), (75_308_115, 75_465_414));
+/// assert_eq!((e.short, e.full), (75_308_836, 75_466_135));
 /// assert_eq!((e.apart, e.bound), (157_299, 227_763)); // 15.7 and 22.8 seconds of arc
 /// assert_eq!(editions(&Instant { month: 13, ..instant }), Err(Refusal::NoDate));
 /// # Ok::<(), Refusal>(())

@@ -3,15 +3,14 @@
 
 /// How a shot is to be worked, beside its numbers; any numbers may be given.
 ///
-/// Later versions will have more members. Take those that you do not set from the default, and the
-/// new ones change none of your answers:
+/// Later versions will have more members. Take those that you do not set from the default, and your
+/// answers stay:
 ///
 /// ```
-/// use fieldbook::{Options, CENTRE, FULL_EDITION, SHORT_EDITION};
+/// use fieldbook::{Options, FULL_EDITION, SHORT_EDITION};
 ///
 /// let options = Options { edition: FULL_EDITION, ..Options::default() };
-/// assert_eq!(options.limb, CENTRE);
-/// assert_eq!(Options::default(), Options { edition: SHORT_EDITION, limb: CENTRE });
+/// assert_eq!(Options::default().edition, SHORT_EDITION);
 /// ```
 #[repr(C)]
 #[derive(Clone, Copy, Debug, PartialEq, Eq)]
@@ -19,9 +18,6 @@ pub struct Options {
     /// The edition of the Sun's series, for Polaris too, which is the same by both: 1 the short one,
     /// the default; 2 the full one.
     pub edition: i64,
-    /// What a pointing sights: 1 the centre, the default; 2 the left limb and 3 the right one, of the
-    /// Sun alone, as you face it. A shot tests it too, and answers for the centre.
-    pub limb: i64,
 }
 
 /// `struct fieldbook_shot_answer`.
@@ -33,7 +29,6 @@ pub struct ShotAnswer {
     pub zenith_distance: u64,
     pub hour_angle: u64,
     pub longitude: u64,
-    pub radius_vector: u64,
 }
 
 /// `struct fieldbook_pointing_answer`.
@@ -158,7 +153,7 @@ pub fn shot(n: [i64; 11], options: Options) -> ShotAnswer {
     }
 }
 
-/// Many shots as the static library answers them: rows of eleven numbers, answers of six words.
+/// Many shots as the static library answers them: rows of eleven numbers, answers of five words.
 pub fn shots(rows: &[i64], answers: &mut [u64], options: Options) -> u64 {
     let (numbers, words) = (rows.len(), answers.len());
     // SAFETY: the function is proved for all lists, reads the one and writes the other, which is

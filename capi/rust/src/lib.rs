@@ -14,16 +14,6 @@ pub const SHORT_EDITION: i64 = 1;
 /// The edition with them. `capi/fieldbook.h` says how near either comes to the sky.
 pub const FULL_EDITION: i64 = 2;
 
-/// The centre of a body, which a pointing sights unless a limb is named.
-pub const CENTRE: i64 = 1;
-/// The left limb of the Sun, as you face it, wherever you stand.
-pub const LEFT_LIMB: i64 = 2;
-/// Its right limb.
-pub const RIGHT_LIMB: i64 = 3;
-
-/// How many words the answer to a shot has.
-const WORDS: usize = 6;
-
 /// The eleven numbers of a shot; any numbers may be given.
 #[derive(Clone, Copy, Debug, PartialEq, Eq)]
 pub struct Numbers {
@@ -57,9 +47,6 @@ pub struct ShotAngles {
     pub hour_angle: u64,
     /// The Sun's apparent longitude s; 0 for Polaris.
     pub longitude: u64,
-    /// How far the Sun is, r, on the ellipse alone, not in those units but in 10^-9 of its mean
-    /// distance; 0 for Polaris.
-    pub radius_vector: u64,
 }
 
 /// Why there is no answer, in the order of the tests; its number is the discriminant.
@@ -74,7 +61,6 @@ pub enum Refusal {
     NoPosition = 5,
     NoBody = 6,
     NoEdition = 19,
-    NoLimb = 20,
     BelowHorizon = 7,
     NearZenith = 8,
     NoList = 16,
@@ -90,7 +76,7 @@ pub enum Refusal {
 
 impl Default for Options {
     fn default() -> Self {
-        Options { edition: SHORT_EDITION, limb: CENTRE }
+        Options { edition: SHORT_EDITION }
     }
 }
 
@@ -148,7 +134,6 @@ fn accepted(number: u64) -> Result<(), Refusal> {
         5 => Refusal::NoPosition,
         6 => Refusal::NoBody,
         19 => Refusal::NoEdition,
-        20 => Refusal::NoLimb,
         7 => Refusal::BelowHorizon,
         8 => Refusal::NearZenith,
         16 => Refusal::NoList,
@@ -164,15 +149,15 @@ fn accepted(number: u64) -> Result<(), Refusal> {
 }
 
 /// The words of a shot's answer: its angles, or why there are none.
-fn answered(words: [u64; WORDS]) -> Result<ShotAngles, Refusal> {
-    let [refusal, azimuth, zenith_distance, hour_angle, longitude, radius_vector] = words;
+fn answered(words: [u64; 5]) -> Result<ShotAngles, Refusal> {
+    let [refusal, azimuth, zenith_distance, hour_angle, longitude] = words;
     accepted(refusal)?;
-    Ok(ShotAngles { azimuth, zenith_distance, hour_angle, longitude, radius_vector })
+    Ok(ShotAngles { azimuth, zenith_distance, hour_angle, longitude })
 }
 
 /// The same of a shot that is answered by value.
 fn angles(a: ffi::ShotAnswer) -> Result<ShotAngles, Refusal> {
-    answered([a.refusal, a.azimuth, a.zenith_distance, a.hour_angle, a.longitude, a.radius_vector])
+    answered([a.refusal, a.azimuth, a.zenith_distance, a.hour_angle, a.longitude])
 }
 
 /// The shot: its angles, or why there are none.
@@ -184,28 +169,15 @@ pub fn shot(numbers: &Numbers, options: Options) -> Result<ShotAngles, Refusal> 
 /// options for all. It builds the table of the sine once, where a single shot builds it for itself.
 pub fn shots(numbers: &[Numbers], options: Options) -> Vec<Result<ShotAngles, Refusal>> {
     let rows: Vec<i64> = numbers.iter().flat_map(Numbers::fields).collect();
-    let mut words = vec![0; WORDS * numbers.len()];
+    let mut words = vec![0; 5 * numbers.len()];
     ffi::shots(&rows, &mut words, options);
-    let answers = words.chunks_exact(WORDS);
-    answers.map(|words| answered(words.try_into().expect("the words of a shot"))).collect()
+    let answers = words.chunks_exact(5);
+    answers.map(|words| answered(words.try_into().expect("five words"))).collect()
 }
 
 /// The pointing: the azimuth of a mark from north, clockwise, in units of 0.0001 second of arc, or
-/// why there is none. The horizontal angle is clockwise from the mark to the body's centre, or to the
-/// limb that the options name, as it was measured, in the same units; any number may be given.
-///
-/// ```
-/// use fieldbook::{pointing, Numbers, Options, Refusal, LEFT_LIMB, RIGHT_LIMB};
-///
-/// let sun = Numbers::from([2026, 5, 12, 14, 32, 18_500, 50, 1_727_820, 282_690, 1, 69_134]);
-/// let mark = |limb| pointing(&sun, 1_000_000_000, Options { limb, ..Options::default() });
-/// assert_eq!(pointing(&sun, 1_000_000_000, Options::default()), Ok(7_944_961_231));
-/// assert_eq!(mark(LEFT_LIMB), Ok(7_932_186_780)); // the centre lies clockwise of the left limb
-/// assert_eq!(mark(RIGHT_LIMB), Ok(7_957_735_682));
-/// let polaris = Numbers { body: 2, ..sun };
-/// let left = Options { limb: LEFT_LIMB, ..Options::default() };
-/// assert_eq!(pointing(&polaris, 1_000_000_000, left), Err(Refusal::NoLimb));
-/// ```
+/// why there is none. The horizontal angle is clockwise from the mark to the body, in the same
+/// units; any number may be given.
 pub fn pointing(numbers: &Numbers, angle: i64, options: Options) -> Result<u64, Refusal> {
     let answer = ffi::pointing(numbers.fields(), angle, options);
     accepted(answer.refusal)?;

@@ -25,15 +25,7 @@ time year month day hour minute millisecond dut1 delta_t = time_of (year ∷ mon
 
 -- what the words of an answer say: of a shot, of a pointing, of a choice, of both editions
 abbrev pub shot_answer_values : ShotAnswer → ShotValues
-shot_answer_values a =
-    record {
-      refusal = a.refusal;
-      azimuth = a.azimuth;
-      zenith_distance = a.zenith_distance;
-      hour_angle = a.hour_angle;
-      longitude = a.longitude;
-      radius_vector = a.radius_vector;
-    }
+shot_answer_values a = record { refusal = a.refusal; azimuth = a.azimuth; zenith_distance = a.zenith_distance; hour_angle = a.hour_angle; longitude = a.longitude }
 
 abbrev pub pointing_answer_values : PointingAnswer → PointingValues
 pointing_answer_values a = record { refusal = a.refusal; mark = a.mark }

@@ -7,10 +7,10 @@ use Rattle.fieldbook.specs.declared.Options.{Options}
 
 -- the words of an answer, in their order
 abbrev pub shot_words : ShotValues → List ℕ
-shot_words v = v.refusal ∷ v.azimuth ∷ v.zenith_distance ∷ v.hour_angle ∷ v.longitude ∷ v.radius_vector ∷ []
+shot_words v = v.refusal ∷ v.azimuth ∷ v.zenith_distance ∷ v.hour_angle ∷ v.longitude ∷ []
 
 abbrev pub word_count : ℕ
-word_count = 6
+word_count = 5
 
 -- how many whole rows of numbers there are, and of room for their words: the fewer of the two
 abbrev pub row_count : List ℤ → List ℕ → ℕ

@@ -1,6 +1,6 @@
 // A card in words that the caller lends, and the calls on it. Document 01, "The card"; document 02, request 6.
 ghost use Rattle.std.specs.Prelude.{◌≡◌};
-ghost use Rattle.fieldbook.specs.Sizes.{ShotSized};
+ghost use Rattle.fieldbook.specs.Shot.{ShotReduced};
 ghost use Rattle.lent_card.specs.LentCard.{words_values, read_words_values, fresh_words, hear_words, confirm_words, undo_words, read_words, buffer_words};
 ghost use Rattle.capi.specs.Interface.{shot_answer_values, card_shot};
 
@@ -57,7 +57,7 @@ pub extern "C" fn fieldbook_card_read(
 // The shot from the card, with options.
 #[unsafe(no_mangle)]
 pub extern "C" fn fieldbook_card_shot(words: &[i64], options: Options) -> ShotAnswer
-    ensures { (shot_answer_values result ≡ card_shot words.now options) × ShotSized options.limb (shot_answer_values result) }
+    ensures { (shot_answer_values result ≡ card_shot words.now options) × ShotReduced (shot_answer_values result) }
 {
     let restored = card_words::from_words(words);
     if !restored.whole {

@@ -1,4 +1,4 @@
-// The pointing: the azimuth of a mark. Document 02, requests 1 and 9.
+// The pointing: the azimuth of a mark. Document 02, request 1.
 ghost use Rattle.std.specs.Prelude.{◌≡◌};
 ghost use Rattle.fieldbook.specs.Shot.{query};
 ghost use Rattle.pointing.specs.Pointing.{MarkReduced, pointing};
@@ -17,7 +17,7 @@ pub struct PointingAnswer {
 }
 
 // The pointing with the eleven plain numbers of a shot and its options, and the horizontal angle, any number, clockwise from the mark to
-// the body's centre or to the limb that the options name.
+// the body.
 #[unsafe(no_mangle)]
 pub extern "C" fn fieldbook_pointing(
     year: i64,

@@ -2,8 +2,7 @@
 ghost use Rattle.std.specs.Prelude.{◌≡◌, ◌++◌, ◌*◌, ◌≤◌, length, drop};
 ghost use Rattle.sine_table.specs.Table.{entries};
 ghost use Rattle.card.specs.Fields.{field_count};
-ghost use Rattle.fieldbook.specs.Shot.{numbers_of, query, shot_values, refused, shot};
-ghost use Rattle.fieldbook.specs.Sizes.{ShotSized};
+ghost use Rattle.fieldbook.specs.Shot.{numbers_of, query, shot_values, refused, ShotReduced, shot};
 ghost use Rattle.capi.specs.Interface.{numbers, shot_answer_values};
 ghost use Rattle.capi.specs.Rows.{word_count, shot_words, row_count, answers_to};
 
@@ -12,10 +11,10 @@ use fieldbook::{Options, Outcome};
 use sine_table::SineTable;
 
 // How many words the answer to a row of many shots has.
-const WORDS: usize = 6;
+const WORDS: usize = 5;
 
-// What a shot answers, laid out as in C: the refusal's number, 0 for none; azimuth, zenith distance, hour angle and s, in units of 0.0001
-// second of arc; and r, in units of 10^−9 of the Sun's mean distance. With a refusal all but its number is 0.
+// What a shot answers, laid out as in C: the refusal's number, 0 for none, and azimuth, zenith distance, hour angle and s, in units of
+// 0.0001 second of arc. A refusal's angles are 0.
 #[repr(C)]
 #[derive(Drop)]
 pub struct ShotAnswer {
@@ -24,7 +23,6 @@ pub struct ShotAnswer {
     pub zenith_distance: u64,
     pub hour_angle: u64,
     pub longitude: u64,
-    pub radius_vector: u64,
 }
 
 // A refused shot, by its number.
@@ -37,7 +35,6 @@ pub fn refused(number: u64) -> ShotAnswer
         zenith_distance: 0,
         hour_angle: 0,
         longitude: 0,
-        radius_vector: 0,
     }
 }
 
@@ -52,7 +49,6 @@ pub fn answer_of(outcome: Outcome) -> ShotAnswer
             zenith_distance: a.zenith_distance,
             hour_angle: a.hour_angle,
             longitude: a.longitude,
-            radius_vector: a.radius_vector,
         },
         Outcome::Refused(refusal) => refused(refusal::number_of(refusal)),
     }
@@ -74,7 +70,7 @@ pub extern "C" fn fieldbook_shot(
     delta_t: i64,
     options: Options,
 ) -> ShotAnswer
-    ensures { (shot_answer_values result ≡ shot (query (numbers year month day hour minute millisecond dut1 latitude longitude body delta_t) options)) × ShotSized options.limb (shot_answer_values result) }
+    ensures { (shot_answer_values result ≡ shot (query (numbers year month day hour minute millisecond dut1 latitude longitude body delta_t) options)) × ShotReduced (shot_answer_values result) }
 {
     let fields = [
         year,
@@ -102,7 +98,6 @@ fn put(answers: &mut [u64], a: ShotAnswer)
     answers[2] = a.zenith_distance;
     answers[3] = a.hour_angle;
     answers[4] = a.longitude;
-    answers[5] = a.radius_vector;
 }
 
 // The shot of the row at the front of a list, its answer at the front of another.
@@ -123,7 +118,7 @@ fn row_count(rows: &[i64], answers: &[u64]) -> usize
     if asked < room { asked } else { room }
 }
 
-// The shots of rows of eleven numbers, the answers in rows of six words, with the same options and one table of the sine for all of
+// The shots of rows of eleven numbers, the answers in rows of five words, with the same options and one table of the sine for all of
 // them. As many rows are answered as there are numbers and room for, and this count is returned; words that no answer takes stay as they
 // were.
 #[unsafe(no_mangle)]

@@ -1,5 +1,5 @@
 -- The laws of `floor_div` and `nearest_div`: what they are, that nothing else is, and how they move with the number divided.
-use mathlib.Core.Path.{◌≡◌, refl, sym, ap, ap₂, subst, ◌∙◌}
+use mathlib.Core.Path.{◌≡◌, refl, sym, ap, ap₂, ◌∙◌}
 use Prim.Native.Nat.{ℕ, ◌+◌, ◌*◌, ◌/◌, ◌%◌, ◌≤◌, ◌<◌}
 use native.Mathlib.Nat.{mul_comm, mul-add, mul-one, mul-pos, mul-div-le, lt-mul-div-succ, div-add-mod, mod-lt, div-lt_iff_lt-mul, le_of_suc-le-suc, lt_of_mul-lt-mul_left}
 use native.Mathlib.Omega.{arith}
@@ -135,20 +135,6 @@ nearest-multiple x d h = let g = go x in sym (nearest-is (pos d *ℤ x) x d h g.
   where
     go : (x : ℤ) → ((pos (2 * d) *ℤ x) ≤ℤ (pos 2 *ℤ (pos d *ℤ x) +ℤ pos d)) × ((pos 2 *ℤ (pos d *ℤ x)) <ℤ (pos (2 * d) *ℤ x +ℤ pos d))
     go x = rw (split x) (simp zs (omega arith))
-
--- the larger number is not rounded to the smaller one, and so a quotient that is at least k, or at most k, is rounded to such a one
-pub nearest-order : (z w : ℤ) (d : ℕ) → 0 < d → z ≤ℤ w → nearest_div z d ≤ℤ nearest_div w d
-unfolding nearest_div
-nearest-order z w d h l = floor-mono (pos 2 *ℤ z +ℤ pos d) (pos 2 *ℤ w +ℤ pos d) (2 * d) (two_pos d h) (go z w l)
-  where
-    go : (z w : ℤ) → z ≤ℤ w → (pos 2 *ℤ z +ℤ pos d) ≤ℤ (pos 2 *ℤ w +ℤ pos d)
-    go z w = rw (split z, split w) (simp zs (omega arith))
-
-pub nearest-least : (k z : ℤ) (d : ℕ) → 0 < d → (pos d *ℤ k) ≤ℤ z → k ≤ℤ nearest_div z d
-nearest-least k z d h l = subst (λ (x : ℤ). x ≤ℤ nearest_div z d) (nearest-multiple k d h) (nearest-order (pos d *ℤ k) z d h l)
-
-pub nearest-most : (z k : ℤ) (d : ℕ) → 0 < d → z ≤ℤ (pos d *ℤ k) → nearest_div z d ≤ℤ k
-nearest-most z k d h l = subst (λ (x : ℤ). nearest_div z d ≤ℤ x) (nearest-multiple k d h) (nearest-order z (pos d *ℤ k) d h l)
 
 -- ---- the same fraction with another denominator
 pub floor-scale : (z : ℤ) (d e : ℕ) → 0 < d → 0 < e → floor_div (pos e *ℤ z) (e * d) ≡ floor_div z d

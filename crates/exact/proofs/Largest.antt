@@ -82,22 +82,6 @@ pub among_one : (p : ℕ → Bool) (low end : ℕ) → FailsOn p end → Among p
 among_one p low end fails a =
     largest-is p end low (omega (arith, a.within)) a.yes (λ b u v. fails (low + 1) b (omega arith) (omega arith) a.no)
 
--- of a run of numbers among which the largest is, by its last number: that is the largest, or it fails, and the run is one shorter
-module _ (p : ℕ → Bool) (low end : ℕ) (fails : FailsOn p end) where
-  pub largest-among : (width : ℕ) → Among p low width end → (low ≤ largest p end) × (largest p end < low + width)
-  largest-among zero a = absurd (omega (arith, among-some p low 0 end a))
-  largest-among (suc k) a = by (p (low + k)) refl (largest-among k)
-    where
-      by : (t : Bool) → p (low + k) ≡ t → (Among p low k end → (low ≤ largest p end) × (largest p end < low + k))
-          → (low ≤ largest p end) × (largest p end < low + suc k)
-      by true e r =
-          let next : low + suc k ≡ low + k + 1 = omega arith in
-          let is = among_one p (low + k) end fails (record { within = omega (arith, a.within); yes = e; no = rw next at a.no }) in
-          (omega arith, omega arith)
-      by false e r =
-          let b = r (record { within = omega (arith, a.within); yes = a.yes; no = e }) in
-          (omega arith, omega arith)
-
 -- the largest of all, by the last of m steps of s numbers whose start passes, and the last number in that step
 module _ (p : ℕ → Bool) (s m : ℕ) (long : 0 < s) (some : 0 < m) (fails : FailsOn p (s * m)) (yes : p 0 ≡ true) where
   abbrev starts : ℕ → Bool

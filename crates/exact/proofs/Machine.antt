@@ -67,9 +67,6 @@ negated z = rw (split z) (simp (zs, abs-dif) (omega arith))
 pub to-nat : (z : ℤ) → pos 0 ≤ℤ z → SFits w64 z → T (non_neg z) × Fits w64 (nat_abs z)
 to-nat z h f = (yes_non_neg h, abs_word z f)
 
-pub above_zero : (n : ℕ) → 0 < n → pos 0 <ℤ pos n
-above_zero n h = simp zs (omega arith)
-
 pub as-signed : (n : ℕ) → n < 2 ^ 63 → to_z w64 n ≡ pos n
 as-signed n h = to_z-of_z {w = w64} {z = pos n} (record { sfits = h })
 

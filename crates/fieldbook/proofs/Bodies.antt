@@ -1,5 +1,5 @@
 -- What the astrometry of an accepted instant gives to both bodies: that a sight under it is the definition's.
-use mathlib.Core.Path.{◌≡◌, refl, ap₂}
+use mathlib.Core.Path.{◌≡◌, refl}
 use mathlib.Core.List.{List}
 use Prim.Native.Nat.{ℕ, ◌^◌}
 use lib.IntN.{ℤ, pos}
@@ -7,14 +7,12 @@ use mir.Syntax.{w64}
 use mir.Val.{SFits}
 use Rattle.exact.proofs.Machine.{fits_lt, fits_le}
 use Rattle.frame.specs.Nutation.{epsilon}
-use Rattle.sun.specs.Orbit.{radius_vector, aberration_at}
-use Rattle.sun.specs.Longitude.{apparent_longitude, sun_longitude, centre_longitude}
+use Rattle.sun.specs.Longitude.{aberration, apparent_longitude, centre_longitude}
 use Rattle.sun.specs.Direction as Sun
-use Rattle.sun.specs.declared.Place.{Place}
 use Rattle.polaris.specs.Apparent as Polaris
 use Rattle.site.specs.declared.Position.{Position}
 use Rattle.horizon.specs.Horizon.{view_from}
-use Rattle.fieldbook.specs.Shot.{ShotValues, place, sun_place, sun_direction, polaris_direction, view_at}
+use Rattle.fieldbook.specs.Shot.{ShotValues, ShotReduced, sun_longitude, sun_direction, polaris_direction, view_at}
 use Rattle.fieldbook.specs.Parts.{sighted_shot}
 use Rattle.fieldbook.specs.Astrometry.{IsAstrometry}
 use Rattle.fieldbook.specs.declared.Astrometry.{Astrometry}
@@ -30,13 +28,12 @@ module _ (k : Astrometry) (h : IsAstrometry k) where
   pub epsilon-fits : SFits w64 k.frame.epsilon
   epsilon-fits = fits_lt (2 ^ 35) k.frame.epsilon h.frame.epsilon-size refl
 
--- ---- a body by its direction and its place
+-- ---- a body by its direction and its longitude
 module _ (k : Astrometry) (h : IsAstrometry k) where
-  pub sun-is : (edition : ℤ) (p : Place) (d : List ℤ) → let e = k.epochs.ephemeris in
-      p.longitude ≡ apparent_longitude edition (aberration_at e) e → p.radius_vector ≡ radius_vector e → d ≡ Sun.direction p.longitude k.frame.epsilon
-      → (d ≡ sun_direction edition e) × (p ≡ sun_place edition e)
-  unfolding sun_direction sun_longitude sun_place
-  sun-is edition p d e r f = let i = h.frame.epsilon in let j = h.arguments in (cc, ap₂ place e r)
+  pub sun-is : (edition : ℤ) (s : ℕ) (d : List ℤ) → s ≡ apparent_longitude edition aberration k.epochs.ephemeris → d ≡ Sun.direction s k.frame.epsilon
+      → (d ≡ sun_direction edition k.epochs.ephemeris) × (s ≡ sun_longitude edition k.epochs.ephemeris)
+  unfolding sun_direction sun_longitude
+  sun-is edition s d e f = let i = h.frame.epsilon in let j = h.arguments in (cc, cc)
 
   pub polaris-is : (g : ℕ) (d : List ℤ) → g ≡ centre_longitude k.arguments k.epochs.ephemeris.q
       → d ≡ Polaris.direction k.epochs.ephemeris k.frame.epsilon0 k.frame.dpsi k.frame.epsilon g
@@ -49,7 +46,7 @@ module _ (k : Astrometry) (h : IsAstrometry k) where
       let m = h.arguments in cc
 
   -- what a sight of it answers is its shot
-  pub shot-is : (p : Position) {d d' : List ℤ} {s s' : Place} {v : ShotValues} → d ≡ d' → s ≡ s'
-      → v ≡ sighted_shot (view_from (pos k.sidereal) p d) s → v ≡ sighted_shot (view_at k.epochs p d') s'
+  pub shot-is : (p : Position) {d d' : List ℤ} {s s' : ℕ} {v : ShotValues} → d ≡ d' → s ≡ s'
+      → (v ≡ sighted_shot (view_from (pos k.sidereal) p d) s) × ShotReduced v → (v ≡ sighted_shot (view_at k.epochs p d') s') × ShotReduced v
   unfolding view_at
-  shot-is p e f v = let i = h.sidereal in cc
+  shot-is p e f v = let i = h.sidereal in let j = v.0 in (cc, v.1)

@@ -1,17 +1,17 @@
 -- A shot by what its parts answer: a refusal of the card, the calendar, the site or the sight is handed on, or the shot goes on from there.
 use mathlib.Core.Path.{◌≡◌, refl, ap, ◌∙◌}
 use mathlib.Core.List.{List}
+use Prim.Native.Nat.{ℕ}
 use native.Mathlib.Omega.{arith}
 use lib.Dec.{lit<}
 use lib.IntN.{ℤ}
 use Rattle.refusal.specs.RefusalNumbers.{number_of}
 use Rattle.refusal.specs.Tests.{Test}
 use Rattle.refusal.specs.declared.Refusal.{Refusal}
-use Rattle.refusal.proofs.Decisions.{Numbered, Refusable, handed-on, passed_on, is-answer, first-refuse, first-pass, number-above-zero}
+use Rattle.refusal.proofs.Decisions.{Numbered, Refusable, handed-on, passed_on, is-answer, first-refuse, first-pass}
 use Rattle.calendar.specs.Time as Time
 use Rattle.calendar.specs.Time.{InstantValues, instant_epochs, accepted, instant_tests, instant_of}
 use Rattle.calendar.specs.declared.Epochs.{Epochs}
-use Rattle.sun.specs.declared.Place.{Place}
 use Rattle.site.specs.Site as Site
 use Rattle.site.specs.Site.{LocatedValues, position, site_tests, position_of}
 use Rattle.site.specs.declared.Site.{Site}
@@ -20,57 +20,39 @@ use Rattle.horizon.specs.Horizon as Horizon
 use Rattle.horizon.specs.Horizon.{View, SightValues, seen, sight_tests, sight_of}
 use Rattle.card.specs.Confirmed.{ConfirmedValues, numbers_in, card_tests, given, withheld, confirmed_numbers}
 use Rattle.card.specs.declared.Card.{Card}
-use Rattle.fieldbook.specs.Shot.{ShotValues, refused, answered, numbers_of, query, tests_from, tests_at, answer_from, tests, answer_of, shot, card_query, shot_from_card}
-use Rattle.fieldbook.specs.Sizes.{ShotSized}
+use Rattle.fieldbook.specs.Shot.{ShotValues, refused, ShotReduced, answered, numbers_of, query, tests_from, tests_at, answer_from, tests, answer_of, shot, card_query, shot_from_card}
 use Rattle.fieldbook.specs.Parts.{sighted_shot, shot_from, shot_at}
 use Rattle.fieldbook.specs.declared.Numbers.{Numbers}
 use Rattle.fieldbook.specs.declared.Options.{Options}
 use Rattle.fieldbook.specs.declared.Query.{Query}
 
--- what is known of a refusal's zeros, whatever the limb
-pub refused-sized : (limb : ℤ) (r : Refusal) → ShotSized limb (refused (number_of r))
-refused-sized limb r =
-    let h = number-above-zero r in
-    record {
-      azimuth = lit< tt;
-      zenith_distance = lit< tt;
-      hour_angle = lit< tt;
-      longitude = lit< tt;
-      zenith_sine = λ e. absurd (omega arith);
-      radius = λ e f. absurd (omega arith);
-    }
+-- a refusal's angles
+pub refused-reduced : (k : ℕ) → ShotReduced (refused k)
+refused-reduced k = (lit< tt, lit< tt, lit< tt, lit< tt)
 
 -- ---- by the answer of a sight
 abbrev sights : Refusable SightValues
 sights = record { number = λ v. v.refusal; refused = Horizon.refused; gives = λ k. refl }
 
-module _ (v : View) (place : Place) where
+module _ (v : View) (s : ℕ) where
   seen-number : (seen v).refusal ≡ 0
   unfolding seen
   seen-number = refl
 
-  pub refused-sight : (r : Refusal) → Horizon.refused (number_of r) ≡ sight_of v → refused (number_of r) ≡ sighted_shot v place
+  pub refused-sight : (r : Refusal) → Horizon.refused (number_of r) ≡ sight_of v → refused (number_of r) ≡ sighted_shot v s
   unfolding sight_of
-  refused-sight r e = handed-on sights (seen v) seen-number (answered v place) refused (sight_tests v) r (ap (λ (a : SightValues). a.refusal) e)
+  refused-sight r e = handed-on sights (seen v) seen-number (answered v s) refused (sight_tests v) r (ap (λ (a : SightValues). a.refusal) e)
 
-  abbrev with_place : SightValues → ShotValues
-  with_place a =
-      record {
-        refusal = 0;
-        azimuth = a.azimuth;
-        zenith_distance = a.zenith_distance;
-        hour_angle = a.hour_angle;
-        longitude = place.longitude;
-        radius_vector = place.radius_vector;
-      }
+  abbrev with_longitude : SightValues → ShotValues
+  with_longitude a = record { refusal = 0; azimuth = a.azimuth; zenith_distance = a.zenith_distance; hour_angle = a.hour_angle; longitude = s }
 
-  pub answered-sight : (a : SightValues) → 0 ≡ a.refusal → a ≡ sight_of v → with_place a ≡ sighted_shot v place
+  pub answered-sight : (a : SightValues) → 0 ≡ a.refusal → a ≡ sight_of v → with_longitude a ≡ sighted_shot v s
   unfolding sight_of
   answered-sight a z e =
       let ts = sight_tests v in
       let all : Numbered ts = (omega arith, (omega arith, tt)) in
-      ap with_place (is-answer sights (seen v) seen-number ts all a z e)
-      ∙ passed_on sights (seen v) seen-number (answered v place) refused ts all (z ∙ ap (λ (a : SightValues). a.refusal) e)
+      ap with_longitude (is-answer sights (seen v) seen-number ts all a z e)
+      ∙ passed_on sights (seen v) seen-number (answered v s) refused ts all (z ∙ ap (λ (a : SightValues). a.refusal) e)
 
 -- ---- by the site's answer
 abbrev sites : Refusable LocatedValues

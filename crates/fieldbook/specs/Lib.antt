@@ -1,5 +1,4 @@
 -- The shot, which the promises cite; then what its parts owe.
 pub mod Shot
-pub mod Sizes
 pub mod Parts
 pub mod Astrometry

@@ -1,28 +1,27 @@
 -- What the parts of a shot owe, as the code makes them one after the other: a body from a position, and a shot at an accepted instant.
-use Rattle.std.specs.Prelude.{ℤ}
+use Rattle.std.specs.Prelude.{ℕ, ℤ}
 use Rattle.refusal.specs.Tests.{decided}
 use Rattle.calendar.specs.declared.Epochs.{Epochs}
-use Rattle.sun.specs.declared.Place.{Place}
 use Rattle.site.specs.Site.{position}
 use Rattle.site.specs.declared.Site.{Site}
 use Rattle.site.specs.declared.Position.{Position}
 use Rattle.horizon.specs.Horizon.{View, sight_tests}
-use Rattle.fieldbook.specs.Shot.{ShotValues, refused, answered, sun_place, sun_direction, polaris_direction, place, place_of, view_at, body_view, tests_from, tests_at, answer_from}
+use Rattle.fieldbook.specs.Shot.{ShotValues, refused, answered, sun_longitude, sun_direction, polaris_direction, longitude_of, view_at, body_view, tests_from, tests_at, answer_from}
 use Rattle.fieldbook.specs.declared.Options.{Options}
 
--- a view's refusals, or its angles with the place
-abbrev pub sighted_shot : View → Place → ShotValues
-sighted_shot v p = decided (sight_tests v) (answered v p) refused
+-- a view's refusals, or its angles with s
+abbrev pub sighted_shot : View → ℕ → ShotValues
+sighted_shot v s = decided (sight_tests v) (answered v s) refused
 
 unfoldable pub sun_shot : ℤ → Epochs → Position → ShotValues
-sun_shot edition es p = sighted_shot (view_at es p (sun_direction edition es.ephemeris)) (sun_place edition es.ephemeris)
+sun_shot edition es p = sighted_shot (view_at es p (sun_direction edition es.ephemeris)) (sun_longitude edition es.ephemeris)
 
 unfoldable pub polaris_shot : Epochs → Position → ShotValues
-polaris_shot es p = sighted_shot (view_at es p (polaris_direction es.ephemeris)) (place 0 0)
+polaris_shot es p = sighted_shot (view_at es p (polaris_direction es.ephemeris)) 0
 
 -- of a body and with options that are known
 unfoldable pub shot_of : Epochs → Position → ℤ → Options → ShotValues
-shot_of es p body o = sighted_shot (body_view es p body o) (place_of es.ephemeris body o)
+shot_of es p body o = sighted_shot (body_view es p body o) (longitude_of es.ephemeris body o)
 
 -- of any
 unfoldable pub shot_from : Epochs → Position → ℤ → Options → ShotValues

@@ -1,10 +1,11 @@
--- Document 01, "Refusal numbers" and "The horizon", and document 02, requests 3, 7 and 9 (RULES.md, "Refusals", "The horizon" and "Options"): what the shot
+-- Document 01, "Refusal numbers" and "The horizon", and document 02, requests 3 and 7 (RULES.md, "Refusals", "The horizon" and "Options"): what the shot
 -- with eleven plain numbers and the shot from a card answer. Angles are in units of 0.0001″.
-use Rattle.std.specs.Prelude.{Bool, cond, List, ◌∷◌, ◌++◌, ℕ, ℤ, pos, get_or, drop}
+use Rattle.std.specs.Prelude.{Bool, cond, List, ◌∷◌, ◌++◌, ℕ, ◌<◌, ℤ, pos, get_or, drop}
 use Rattle.std.proofs.Math.Bool.{decide}
 use Rattle.std.proofs.Math.IntN.{ℤ_discrete}
 use Rattle.refusal.specs.RefusalNumbers.{number_of}
 use Rattle.refusal.specs.Tests.{Test, test, decided}
+use Rattle.exact.specs.Reduction.{turn}
 use Rattle.exact.specs.Range.{between}
 use Rattle.exact.specs.Nth.{nth}
 use Rattle.epoch.specs.declared.Epoch.{Epoch}
@@ -14,10 +15,8 @@ use Rattle.arguments.specs.PrintedArguments.{arguments_of}
 use Rattle.frame.specs.Nutation.{dpsi, epsilon0, epsilon}
 use Rattle.frame.specs.Sidereal.{sidereal_time}
 use Rattle.sun.specs.Editions.{is_edition}
-use Rattle.sun.specs.Orbit.{radius_vector}
-use Rattle.sun.specs.Longitude.{sun_longitude, centre_longitude}
+use Rattle.sun.specs.Longitude.{aberration, apparent_longitude, centre_longitude}
 use Rattle.sun.specs.Direction as Sun
-use Rattle.sun.specs.declared.Place.{Place}
 use Rattle.polaris.specs.Apparent as Polaris
 use Rattle.site.specs.Site.{position, site_tests}
 use Rattle.site.specs.declared.Site.{Site}
@@ -49,16 +48,16 @@ numbers_of fields = record {
   body = nth fields 9;
 }
 
--- requests 7 and 9: how it is worked, and what of the body is sighted. An option that a list leaves out has its default: the short edition, the centre
+-- request 7: how it is worked. An option that a list leaves out has its default: the short edition
 abbrev pub defaults : Options
-defaults = record { edition = pos 1; limb = pos 1 }
+defaults = record { edition = pos 1 }
 
 unfoldable pub options_of : List ℤ → Options
-options_of l = record { edition = get_or l 0 defaults.edition; limb = get_or l 1 defaults.limb }
+options_of l = record { edition = get_or l 0 defaults.edition }
 
 -- how many options there are
 abbrev pub option_count : ℕ
-option_count = 2
+option_count = 1
 
 abbrev pub query : Numbers → Options → Query
 query x o = record { numbers = x; options = o }
@@ -68,31 +67,26 @@ unfoldable pub query_of : List ℤ → ℕ → Query
 query_of l place = query (numbers_of l) (options_of (drop place l))
 
 -- ---- the values of an answer
--- the refusal's number, 0 where there is none; azimuth, zenith distance, hour angle and s; and r, in units of 10^−9 of the Sun's mean distance
+-- the refusal's number, 0 where there is none, and azimuth, zenith distance, hour angle and s
 pub record ShotValues : Type 0 where
   pub refusal : ℕ
   pub azimuth : ℕ
   pub zenith_distance : ℕ
   pub hour_angle : ℕ
   pub longitude : ℕ
-  pub radius_vector : ℕ
 
--- a refusal has zeros
+-- a refusal has zero angles
 abbrev pub refused : ℕ → ShotValues
-refused k = record { refusal = k; azimuth = 0; zenith_distance = 0; hour_angle = 0; longitude = 0; radius_vector = 0 }
+refused k = record { refusal = k; azimuth = 0; zenith_distance = 0; hour_angle = 0; longitude = 0 }
 
 -- document 01′s number and values of each case of the code's answer
 abbrev pub shot_values : Outcome → ShotValues
-shot_values (Answered a) =
-    record {
-      refusal = 0;
-      azimuth = a.azimuth;
-      zenith_distance = a.zenith_distance;
-      hour_angle = a.hour_angle;
-      longitude = a.longitude;
-      radius_vector = a.radius_vector;
-    }
+shot_values (Answered a) = record { refusal = 0; azimuth = a.azimuth; zenith_distance = a.zenith_distance; hour_angle = a.hour_angle; longitude = a.longitude }
 shot_values (Refused r) = refused (number_of r)
+
+-- every angle is below a full circle
+abbrev pub ShotReduced : ShotValues → Type 0
+ShotReduced v = (v.azimuth < turn) × (v.zenith_distance < turn) × (v.hour_angle < turn) × (v.longitude < turn)
 
 -- ---- a body at the epochs of an instant
 -- field 10: 1 is the Sun, 2 Polaris
@@ -102,22 +96,9 @@ is_sun body = decide (ℤ_discrete body (pos 1))
 abbrev pub is_body : ℤ → Bool
 is_body body = between (pos 1) body (pos 2)
 
--- request 9′s limb: 1 is the centre, and of the Sun alone 2 the left limb and 3 the right one, as one faces it
-abbrev pub limb_count : ℤ → ℕ
-limb_count body = cond (is_sun body) 3 1
-
-abbrev pub is_limb : ℤ → ℤ → Bool
-is_limb body limb = between (pos 1) limb (pos (limb_count body))
-
-abbrev pub is_centre : ℤ → Bool
-is_centre limb = decide (ℤ_discrete limb (pos 1))
-
--- the Sun's place by an edition, s and r, and its direction
-abbrev pub place : ℕ → ℕ → Place
-place s r = record { longitude = s; radius_vector = r }
-
-unfoldable pub sun_place : ℤ → Epoch → Place
-sun_place edition e = place (sun_longitude edition e) (radius_vector e)
+-- the Sun's s by an edition, and its direction
+unfoldable pub sun_longitude : ℤ → Epoch → ℕ
+sun_longitude edition e = apparent_longitude edition aberration e
 
 unfoldable pub sun_direction : ℤ → Epoch → List ℤ
 sun_direction edition e = Sun.direction (sun_longitude edition e) (epsilon (arguments_of e) e.q)
@@ -127,12 +108,12 @@ polaris_direction e =
     let a = arguments_of e in
     Polaris.direction e (epsilon0 a) (dpsi a e.q) (epsilon a e.q) (centre_longitude a e.q)
 
--- the direction of a body, with options of which Polaris heeds none, and the place that an answer gives: the Sun's, and zeros for Polaris
+-- the direction of a body, with options of which Polaris heeds none, and the apparent longitude that an answer gives: s, and 0 for Polaris
 abbrev pub direction_of : Epoch → ℤ → Options → List ℤ
 direction_of e body o = cond (is_sun body) (sun_direction o.edition e) (polaris_direction e)
 
-abbrev pub place_of : Epoch → ℤ → Options → Place
-place_of e body o = cond (is_sun body) (sun_place o.edition e) (place 0 0)
+abbrev pub longitude_of : Epoch → ℤ → Options → ℕ
+longitude_of e body o = cond (is_sun body) (sun_longitude o.edition e) 0
 
 -- ---- seen from a position
 -- Greenwich sidereal time: the Earth rotates by universal time, Δψ and ε go by ephemeris time
@@ -145,39 +126,28 @@ sidereal_at es =
 unfoldable pub view_at : Epochs → Position → List ℤ → View
 view_at es p d = view_from (pos (sidereal_at es)) p d
 
--- the angles of a view, with the place
-abbrev pub answered : View → Place → ShotValues
-answered v p =
+-- the angles of a view, with s
+abbrev pub answered : View → ℕ → ShotValues
+answered v s =
     let a = seen v in
-    record {
-      refusal = 0;
-      azimuth = a.azimuth;
-      zenith_distance = a.zenith_distance;
-      hour_angle = a.hour_angle;
-      longitude = p.longitude;
-      radius_vector = p.radius_vector;
-    }
+    record { refusal = 0; azimuth = a.azimuth; zenith_distance = a.zenith_distance; hour_angle = a.hour_angle; longitude = s }
 
 unfoldable pub body_view : Epochs → Position → ℤ → Options → View
 body_view es p body o = view_at es p (direction_of es.ephemeris body o)
 
 -- what is asked at an accepted instant, in the stated order: of the body, of the options, and of the view from a position
 abbrev pub tests_from : Epochs → Position → ℤ → Options → List Test
-tests_from es p body o =
-    test (is_body body) 6
-    ∷ test (is_edition o.edition) 19
-    ∷ test (is_limb body o.limb) 20
-    ∷ sight_tests (body_view es p body o)
+tests_from es p body o = test (is_body body) 6 ∷ test (is_edition o.edition) 19 ∷ sight_tests (body_view es p body o)
 
 -- before that, of the site
 abbrev pub tests_at : Epochs → Site → ℤ → Options → List Test
 tests_at es site body o = site_tests site ++ tests_from es (position site) body o
 
 abbrev pub answer_from : Epochs → Position → ℤ → Options → ShotValues
-answer_from es p body o = answered (body_view es p body o) (place_of es.ephemeris body o)
+answer_from es p body o = answered (body_view es p body o) (longitude_of es.ephemeris body o)
 
 -- ---- the shot with plain numbers
--- its tests in the stated order: of the instant, 2 to 4 and 17, and then those above, 5, 6, 19, 20, 7 and 8
+-- its tests in the stated order: of the instant, 2 to 4 and 17, and then those above, 5, 6, 19, 7 and 8
 abbrev pub tests : Query → List Test
 tests x = let n = x.numbers in instant_tests n.time ++ tests_at (instant_epochs n.time) n.site n.body x.options
 

@@ -1,16 +1,14 @@
 // The shot: where the Sun or Polaris stands for eleven numbers, or for a card. Document 01, "Refusal numbers", "The horizon"; document 02,
-// requests 3 (field 11), 7 (the edition) and 9 (the limb).
-ghost use Rattle.std.specs.Prelude.{◌≡◌, true, false, ◌<◌, ◌≤◌, ℤ, pos, length, get_or};
+// requests 3 (field 11) and 7 (the edition).
+ghost use Rattle.std.specs.Prelude.{◌≡◌, ◌<◌, ◌≤◌, length};
 ghost use Rattle.exact.specs.Reduction.{turn};
 ghost use Rattle.sine_table.specs.Table.{entries};
 ghost use Rattle.epoch.specs.Sizes.{InSpan};
-ghost use Rattle.sun.specs.Sizes.{RadiusSized};
 ghost use Rattle.site.specs.Sizes.{PositionSized};
 ghost use Rattle.horizon.specs.Horizon.{View, sight_of, sight_values};
-ghost use Rattle.horizon.specs.Sizes.{SightSized};
+ghost use Rattle.horizon.specs.Sizes.{SightReduced};
 ghost use Rattle.card.specs.Fields.{field_count};
-ghost use Rattle.fieldbook.specs.Shot.{numbers_of, options_of, query, query_of, shot_values, is_limb, limb_count, is_centre, shot, shot_from_card};
-ghost use Rattle.fieldbook.specs.Sizes.{ShotSized};
+ghost use Rattle.fieldbook.specs.Shot.{numbers_of, options_of, query, query_of, shot_values, ShotReduced, shot, shot_from_card};
 ghost use Rattle.fieldbook.specs.Parts.{sighted_shot, sun_shot, polaris_shot, shot_of, shot_from, shot_at};
 ghost use Rattle.fieldbook.specs.Astrometry.{IsAstrometry};
 
@@ -21,7 +19,6 @@ use horizon::Sighting;
 use refusal::{Refusal, Verdict};
 use sine_table::SineTable;
 use site::{Located, Position, Site};
-use sun::Place;
 
 // The numbers of a shot: fields 1 to 7 and 11 of the card, 8 and 9, and 10.
 #[derive(Drop)]
@@ -31,29 +28,18 @@ pub struct Numbers {
     pub body: i64,
 }
 
-// How a shot is worked, any numbers: the edition of the Sun's series, 1 short or 2 full; and the limb that a pointing sights, 1 the centre, 2
-// the left limb or 3 the right one of the Sun, as one faces it. Laid out as in C.
+// How a shot is worked, any numbers: the edition of the Sun's series, 1 short or 2 full. Laid out as in C.
 #[repr(C)]
 #[derive(Drop)]
 pub struct Options {
     pub edition: i64,
-    pub limb: i64,
 }
 
 // The options of a caller who names none.
-pub const DEFAULTS: Options = Options {
-    edition: 1,
-    limb: 1,
-};
+pub const DEFAULTS: Options = Options { edition: 1 };
 
 // How many options there are.
-pub const OPTIONS: usize = 2;
-
-// The place that an answer gives for Polaris.
-const NO_PLACE: Place = Place {
-    longitude: 0,
-    radius_vector: 0,
-};
+pub const OPTIONS: usize = 1;
 
 // What a shot is asked with.
 #[derive(Drop)]
@@ -63,14 +49,13 @@ pub struct Query {
 }
 
 // An answered shot, in units of 0.0001 second of arc: the azimuth from north clockwise, the zenith distance, the hour angle, and the
-// Sun's apparent longitude s; then its radius vector r, in units of 10^−9 of the mean distance. Both are 0 for Polaris.
+// Sun's apparent longitude s, 0 for Polaris.
 #[derive(Drop)]
 pub struct ShotAngles {
     pub azimuth: u64,
     pub zenith_distance: u64,
     pub hour_angle: u64,
     pub longitude: u64,
-    pub radius_vector: u64,
 }
 
 // What a shot answers.
@@ -120,25 +105,14 @@ pub fn numbers_of(fields: &[i64]) -> Numbers
     }
 }
 
-// The option at a place of a list, or its default where the list ends before it.
-fn option_at(list: &[i64], place: usize, default: i64) -> i64
-    ensures { result ≡ get_or list.now place default }
-{
-    if place < list.len() {
-        list[place]
-    } else {
-        default
-    }
-}
-
 // The options of a list, in the order above; those that it leaves out are the defaults.
 pub fn options_of(list: &[i64]) -> Options
     ensures { result ≡ options_of list.now }
 {
-    Options {
-        edition: option_at(list, 0, DEFAULTS.edition),
-        limb: option_at(list, 1, DEFAULTS.limb),
+    if list.len() == 0 {
+        return DEFAULTS;
     }
+    Options { edition: list[0] }
 }
 
 // What the numbers of the fields ask with options.
@@ -161,19 +135,17 @@ pub fn query_of(list: &[i64], options_at: usize) -> Query
     query_with(list, options_of(&list[options_at..]))
 }
 
-// A sight as a shot's answer, with the Sun's place.
-fn sighted_shot(sighting: Sighting, place: Place) -> Outcome
-    requires { SightSized sighting × (place.longitude < turn) }
-    ensures result_value { (v : View) → sight_values sighting ≡ sight_of v → shot_values result ≡ sighted_shot v place }
-    ensures shot_sized { (limb : ℤ) → (is_centre limb ≡ false → RadiusSized place.radius_vector) → ShotSized limb (shot_values result) }
+// A sight as a shot's answer, with s.
+fn sighted_shot(sighting: Sighting, longitude: u64) -> Outcome
+    requires { SightReduced sighting × (longitude < turn) }
+    ensures { ((v : View) → sight_values sighting ≡ sight_of v → shot_values result ≡ sighted_shot v longitude) × ShotReduced (shot_values result) }
 {
     match sighting {
         Sighting::Seen(a) => Outcome::Answered(ShotAngles {
             azimuth: a.azimuth,
             zenith_distance: a.zenith_distance,
             hour_angle: a.hour_angle,
-            longitude: place.longitude,
-            radius_vector: place.radius_vector,
+            longitude: longitude,
         }),
         Sighting::Refused(refusal) => Outcome::Refused(refusal),
     }
@@ -199,33 +171,30 @@ fn astrometry_of(t: &SineTable, epochs: Epochs) -> Astrometry
 // The Sun from a position, by an edition of its series.
 fn sun_shot(t: &SineTable, edition: i64, astrometry: Astrometry, position: Position) -> Outcome
     requires { (t.now ≡ entries) × IsAstrometry astrometry × PositionSized position }
-    ensures { (shot_values result ≡ sun_shot edition astrometry.epochs position) × ((limb : ℤ) → ShotSized limb (shot_values result)) }
+    ensures { (shot_values result ≡ sun_shot edition astrometry.epochs position) × ShotReduced (shot_values result) }
 {
     let arguments = astrometry.arguments;
     let e = astrometry.epochs.ephemeris;
     let f = astrometry.frame;
-    let place = sun::apparent_place(t, edition, &arguments, e, f.dpsi);
-    let d = sun::direction(t, place.longitude, f.epsilon);
-    sighted_shot(horizon::sight(t, d, astrometry.sidereal, position), place)
+    let s = sun::apparent_longitude(t, edition, &arguments, e, f.dpsi, sun::ABERRATION);
+    let d = sun::direction(t, s, f.epsilon);
+    sighted_shot(horizon::sight(t, d, astrometry.sidereal, position), s)
 }
 
 // Polaris from a position.
 fn polaris_shot(t: &SineTable, astrometry: Astrometry, position: Position) -> Outcome
     requires { (t.now ≡ entries) × IsAstrometry astrometry × PositionSized position }
-    ensures { (shot_values result ≡ polaris_shot astrometry.epochs position) × ShotSized (pos 1) (shot_values result) }
+    ensures { (shot_values result ≡ polaris_shot astrometry.epochs position) × ShotReduced (shot_values result) }
 {
     let arguments = astrometry.arguments;
     let e = astrometry.epochs.ephemeris;
     let f = astrometry.frame;
     let g = sun::centre_longitude(t, &arguments, e);
     let d = polaris::direction(t, e, f.epsilon0, f.dpsi, f.epsilon, g);
-    sighted_shot(
-        horizon::sight(t, d, astrometry.sidereal, position),
-        NO_PLACE,
-    )
+    sighted_shot(horizon::sight(t, d, astrometry.sidereal, position), 0)
 }
 
-// An accepted instant from a position, of a body and with options that are known.
+// An accepted instant from a position, of a body and by an edition: the shot of the body, where both are known.
 fn shot_of(
     t: &SineTable,
     epochs: Epochs,
@@ -233,8 +202,8 @@ fn shot_of(
     body: i64,
     options: Options,
 ) -> Outcome
-    requires { (t.now ≡ entries) × (InSpan epochs.universal × InSpan epochs.ephemeris) × PositionSized position × (is_limb body options.limb ≡ true) }
-    ensures { (shot_values result ≡ shot_of epochs position body options) × ShotSized options.limb (shot_values result) }
+    requires { (t.now ≡ entries) × (InSpan epochs.universal × InSpan epochs.ephemeris) × PositionSized position }
+    ensures { (shot_values result ≡ shot_of epochs position body options) × ShotReduced (shot_values result) }
 {
     let astrometry = astrometry_of(t, epochs);
     if body == 1 {
@@ -244,14 +213,7 @@ fn shot_of(
     }
 }
 
-// How many limbs of a body there are to sight, its centre counted.
-fn limb_count(body: i64) -> i64
-    ensures { result ≡ pos (limb_count body) }
-{
-    if body == 1 { 3 } else { 1 }
-}
-
-// The same of any body and any options: their refusals, then the shot.
+// The same of any body and edition: their refusals, then the shot.
 fn shot_from(
     t: &SineTable,
     epochs: Epochs,
@@ -260,7 +222,7 @@ fn shot_from(
     options: Options,
 ) -> Outcome
     requires { (t.now ≡ entries) × (InSpan epochs.universal × InSpan epochs.ephemeris) × PositionSized position }
-    ensures { (shot_values result ≡ shot_from epochs position body options) × ShotSized options.limb (shot_values result) }
+    ensures { (shot_values result ≡ shot_from epochs position body options) × ShotReduced (shot_values result) }
 {
     if !exact::between(1, body, 2) {
         return Outcome::Refused(Refusal::NoBody);
@@ -268,16 +230,13 @@ fn shot_from(
     if !exact::between(1, options.edition, 2) {
         return Outcome::Refused(Refusal::NoEdition);
     }
-    if !exact::between(1, options.limb, limb_count(body)) {
-        return Outcome::Refused(Refusal::NoLimb);
-    }
     shot_of(t, epochs, position, body, options)
 }
 
 // An accepted instant from any site, of any body, with any options.
 fn shot_at(t: &SineTable, epochs: Epochs, site: Site, body: i64, options: Options) -> Outcome
     requires { (t.now ≡ entries) × (InSpan epochs.universal × InSpan epochs.ephemeris) }
-    ensures { (shot_values result ≡ shot_at epochs site body options) × ShotSized options.limb (shot_values result) }
+    ensures { (shot_values result ≡ shot_at epochs site body options) × ShotReduced (shot_values result) }
 {
     match site::position_of(site) {
         Located::At(position) => shot_from(t, epochs, position, body, options),
@@ -288,7 +247,7 @@ fn shot_at(t: &SineTable, epochs: Epochs, site: Site, body: i64, options: Option
 // The shot with plain numbers, any numbers and options, with the sine's table lent: a caller of many shots names it once.
 pub fn shot_with(t: &SineTable, query: Query) -> Outcome
     requires { t.now ≡ entries }
-    ensures { (shot_values result ≡ shot query) × ShotSized query.options.limb (shot_values result) }
+    ensures { (shot_values result ≡ shot query) × ShotReduced (shot_values result) }
 {
     let numbers = query.numbers;
     let options = query.options;
@@ -300,7 +259,7 @@ pub fn shot_with(t: &SineTable, query: Query) -> Outcome
 
 // The same, with a table of its own.
 pub fn shot(query: Query) -> Outcome
-    ensures { (shot_values result ≡ shot query) × ShotSized query.options.limb (shot_values result) }
+    ensures { (shot_values result ≡ shot query) × ShotReduced (shot_values result) }
 {
     let t = sine_table::table();
     shot_with(&t, query)
@@ -320,7 +279,7 @@ fn with_card(outcome: Outcome, card: Card) -> CardShot
 // confirmed numbers. The card is answered as it was given.
 pub fn shot_from_card_with(t: &SineTable, card: Card, options: Options) -> CardShot
     requires { t.now ≡ entries }
-    ensures { (shot_values result.outcome ≡ shot_from_card card options) × (result.card ≡ card) × ShotSized options.limb (shot_values result.outcome) }
+    ensures { (shot_values result.outcome ≡ shot_from_card card options) × (result.card ≡ card) × ShotReduced (shot_values result.outcome) }
 {
     let confirmed = card::confirmed_numbers(card);
     let verdict = confirmed.verdict;
@@ -334,7 +293,7 @@ pub fn shot_from_card_with(t: &SineTable, card: Card, options: Options) -> CardS
 
 // The same, with a table of its own.
 pub fn shot_from_card(card: Card, options: Options) -> CardShot
-    ensures { (shot_values result.outcome ≡ shot_from_card card options) × (result.card ≡ card) × ShotSized options.limb (shot_values result.outcome) }
+    ensures { (shot_values result.outcome ≡ shot_from_card card options) × (result.card ≡ card) × ShotReduced (shot_values result.outcome) }
 {
     let t = sine_table::table();
     shot_from_card_with(&t, card, options)

@@ -1,2 +1,1 @@
 pub mod ToHorizon
-pub mod ZenithSine

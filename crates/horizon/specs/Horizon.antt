@@ -75,15 +75,11 @@ seen v =
 abbrev pub refused : ℕ → SightValues
 refused k = record { refusal = k; azimuth = 0; zenith_distance = 0; hour_angle = 0 }
 
--- the least square of the horizontal part that is answered: (0.01·R)²
-abbrev pub least_square : ℕ
-least_square = 10 ^ 14
-
 -- what is asked of a view, in the stated order: the body is not below the horizon (up = 0 passes), and not too near the zenith
 abbrev pub sight_tests : View → List Test
 sight_tests v =
     test (not (lt_z v.up (pos 0))) 7
-    ∷ test (not (ltb (horizontal_square v.north v.east) least_square)) 8
+    ∷ test (not (ltb (horizontal_square v.north v.east) (10 ^ 14))) 8
     ∷ []
 
 unfoldable pub sight_of : View → SightValues

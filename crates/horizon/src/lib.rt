@@ -7,7 +7,7 @@ ghost use Rattle.rotation.specs.Length.{squared_length, growth};
 ghost use Rattle.rotation.specs.Sizes.{reach, component_most};
 ghost use Rattle.site.specs.Sizes.{PositionSized};
 ghost use Rattle.horizon.specs.Horizon.{to_meridian, to_horizon, view, view_from, sight_of, sight_values, horizontal_square};
-ghost use Rattle.horizon.specs.Sizes.{SightSized, square_most};
+ghost use Rattle.horizon.specs.Sizes.{SightReduced, square_most};
 
 use refusal::Refusal;
 use rotation::Direction;
@@ -62,7 +62,7 @@ fn horizontal_square(north: i64, east: i64) -> u64
 // The angles of a body, from x' and its components up, east and north; refusal 7 before 8.
 fn sight_of(t: &SineTable, x: i64, up: i64, east: i64, north: i64) -> Sighting
     requires { (t.now ≡ entries) × (nat_abs x ≤ component_most) × (nat_abs up ≤ component_most) × (nat_abs east ≤ component_most) × (nat_abs north ≤ component_most) }
-    ensures { (sight_values result ≡ sight_of (view x up east north)) × SightSized result }
+    ensures { (sight_values result ≡ sight_of (view x up east north)) × SightReduced result }
 {
     if up < 0 {
         return Sighting::Refused(Refusal::BelowHorizon);
@@ -82,7 +82,7 @@ fn sight_of(t: &SineTable, x: i64, up: i64, east: i64, north: i64) -> Sighting
 // What an observer at a position sees of a body in direction d, at a sidereal time of Greenwich.
 pub fn sight(t: &SineTable, d: Direction, sidereal: u64, position: Position) -> Sighting
     requires { (t.now ≡ entries) × (squared_length d + 2 * growth ≤ reach) × (sidereal < turn) × PositionSized position }
-    ensures { (sight_values result ≡ sight_of (view_from (pos sidereal) position d)) × SightSized result }
+    ensures { (sight_values result ≡ sight_of (view_from (pos sidereal) position d)) × SightReduced result }
 {
     let m = to_meridian(t, d, sidereal, position.longitude);
     let h = to_horizon(t, m, position.latitude);

@@ -40,9 +40,9 @@ unfoldable pub words : List ℕ → List (List ℕ)
 words [] = [] ∷ []
 words (c ∷ l) = cond (eqb c 32) ([] ∷ words l) (prefixed c (words l))
 
--- the most numbers that a line of any program has: a pointing's eleven fields, its horizontal angle, the edition and the limb
+-- the most numbers that a line of any program has: a pointing's eleven fields, its horizontal angle and the edition
 abbrev pub row_length : ℕ
-row_length = 14
+row_length = 13
 
 abbrev pub if_number : Numeral → (ℤ → List ℤ) → List ℤ
 if_number NoNumber then = []

@@ -4,8 +4,8 @@ ghost use Rattle.lines.specs.Numerals.{digits_of, numeral_of, row_length, number
 ghost use Rattle.lines.specs.Sizes.{Below};
 ghost use Rattle.lines.specs.Appending.{decimal_text, Appends};
 
-// The most numbers that a line of any program has: a pointing's eleven fields, its horizontal angle, the edition and the limb.
-pub const ROW: usize = 14;
+// The most numbers that a line of any program has: a pointing's eleven fields, its horizontal angle and the edition.
+pub const ROW: usize = 13;
 
 // The most digits of a number of 64 bits.
 const DIGITS: usize = 20;

@@ -13,12 +13,12 @@ use Rattle.fieldbook.specs.Shot.{ShotValues}
 use Rattle.pointing.specs.Pointing.{answered, refused, mark_azimuth, pointed}
 
 -- a refused shot refuses its pointing
-pub shot-refused : (r : Refusal) (limb angle : ℤ) → refused (number_of r) ≡ pointed (Book.refused (number_of r)) limb angle
+pub shot-refused : (r : Refusal) (angle : ℤ) → refused (number_of r) ≡ pointed (Book.refused (number_of r)) angle
 unfolding pointed
-shot-refused r limb angle = let h = number-above-zero r in rw (ne_eqb (number_of r) 0 λ e. omega arith)
+shot-refused r angle = let h = number-above-zero r in rw (ne_eqb (number_of r) 0 λ e. omega arith)
 
 -- an answered one leaves it to the angle
-pub by-angle : (v : ShotValues) (limb angle : ℤ) (t : Bool) → v.refusal ≡ 0 → is_reduced angle ≡ t
-    → cond t (answered (mark_azimuth v limb angle)) (refused 15) ≡ pointed v limb angle
+pub by-angle : (v : ShotValues) (angle : ℤ) (t : Bool) → v.refusal ≡ 0 → is_reduced angle ≡ t
+    → cond t (answered (mark_azimuth v.azimuth angle)) (refused 15) ≡ pointed v angle
 unfolding pointed
-by-angle v limb angle t e f = rw (e, f)
+by-angle v angle t e f = rw (e, f)

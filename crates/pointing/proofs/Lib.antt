@@ -1,2 +1,1 @@
-pub mod CorrectionRange
 pub mod ByTheShot

@@ -1,3 +1,1 @@
-pub mod Limb
-pub mod Sizes
 pub mod Pointing

@@ -1,5 +1,5 @@
--- Document 02, requests 1 and 9 (RULES.md, "The mark"): what a pointing answers, by its shot, the limb that was sighted and the horizontal angle from the
--- mark to it, clockwise. Angles are in units of 0.0001″.
+-- Document 02, request 1 (RULES.md, "The mark"): what a pointing answers, by its shot and the horizontal angle from the mark to the body, clockwise.
+-- Angles are in units of 0.0001″.
 use Rattle.std.specs.Prelude.{List, [], ◌∷◌, ℕ, ◌<◌, eqb, ℤ, pos, ◌-ℤ◌}
 use Rattle.refusal.specs.RefusalNumbers.{number_of}
 use Rattle.refusal.specs.Tests.{Test, test, decided}
@@ -8,7 +8,6 @@ use Rattle.card.specs.declared.Card.{Card}
 use Rattle.fieldbook.specs.Shot.{ShotValues, shot, shot_from_card}
 use Rattle.fieldbook.specs.declared.Options.{Options}
 use Rattle.fieldbook.specs.declared.Query.{Query}
-use Rattle.pointing.specs.Limb.{centre_angle}
 use Rattle.pointing.specs.declared.Mark.{Mark}
 use Rattle.pointing.specs.declared.Mark.TheVariants.{Azimuth, Refused}
 
@@ -32,21 +31,21 @@ pointing_values (Refused r) = refused (number_of r)
 abbrev pub MarkReduced : PointingValues → Type 0
 MarkReduced v = v.mark < turn
 
--- the body's azimuth less the horizontal angle to its centre, reduced
-abbrev pub mark_azimuth : ShotValues → ℤ → ℤ → ℕ
-mark_azimuth v limb angle = reduced (pos v.azimuth -ℤ pos (centre_angle limb v.radius_vector v.zenith_distance angle))
+-- the body's azimuth less the horizontal angle, reduced
+abbrev pub mark_azimuth : ℕ → ℤ → ℕ
+mark_azimuth azimuth angle = reduced (pos azimuth -ℤ angle)
 
 -- that the shot is answered, else its own refusal; and then that the angle as given lies on the circle, 15
 abbrev pub pointing_tests : ShotValues → ℤ → List Test
 pointing_tests v angle = test (eqb v.refusal 0) v.refusal ∷ test (is_reduced angle) 15 ∷ []
 
--- by what the shot with this limb gave
-unfoldable pub pointed : ShotValues → ℤ → ℤ → PointingValues
-pointed v limb angle = decided (pointing_tests v angle) (answered (mark_azimuth v limb angle)) refused
+-- by what the shot gave
+unfoldable pub pointed : ShotValues → ℤ → PointingValues
+pointed v angle = decided (pointing_tests v angle) (answered (mark_azimuth v.azimuth angle)) refused
 
 -- with plain numbers, and from a card
 abbrev pub pointing : Query → ℤ → PointingValues
-pointing x angle = pointed (shot x) x.options.limb angle
+pointing x angle = pointed (shot x) angle
 
 abbrev pub pointing_from_card : Card → Options → ℤ → PointingValues
-pointing_from_card c o angle = pointed (shot_from_card c o) o.limb angle
+pointing_from_card c o angle = pointed (shot_from_card c o) angle

@@ -1,10 +1,7 @@
-// The pointing: the azimuth of a reference mark, from a shot of a body and the horizontal angle between the two. Document 02, requests 1 and 9.
-mod limb;
-
+// The pointing: the azimuth of a reference mark, from a shot of a body and the horizontal angle between the two. Document 02, request 1.
 ghost use Rattle.std.specs.Prelude.{◌≡◌};
 ghost use Rattle.sine_table.specs.Table.{entries};
-ghost use Rattle.fieldbook.specs.Shot.{shot_values};
-ghost use Rattle.fieldbook.specs.Sizes.{ShotSized};
+ghost use Rattle.fieldbook.specs.Shot.{shot_values, ShotReduced};
 ghost use Rattle.pointing.specs.Pointing.{pointing_values, MarkReduced, pointed, pointing, pointing_from_card};
 
 use card::Card;
@@ -26,18 +23,17 @@ pub struct CardPointing {
     pub card: Card,
 }
 
-// The mark, from what the shot of the body gave, the limb and the horizontal angle, clockwise from the mark to the limb, any number.
-fn pointed(t: &SineTable, outcome: Outcome, limb: i64, angle: i64) -> Mark
-    requires { (t.now ≡ entries) × ShotSized limb (shot_values outcome) }
-    ensures { (pointing_values result ≡ pointed (shot_values outcome) limb angle) × MarkReduced (pointing_values result) }
+// The mark, from what the shot of the body gave and the horizontal angle, clockwise from the mark to the body, any number.
+fn pointed(outcome: Outcome, angle: i64) -> Mark
+    requires { ShotReduced (shot_values outcome) }
+    ensures { (pointing_values result ≡ pointed (shot_values outcome) angle) × MarkReduced (pointing_values result) }
 {
     match outcome {
         Outcome::Answered(a) => {
             if !exact::is_reduced(angle) {
                 return Mark::Refused(Refusal::NoAngle);
             }
-            let centre = limb::centre_angle(t, limb, a.radius_vector, a.zenith_distance, angle);
-            Mark::Azimuth(exact::reduced_bounded(a.azimuth as i64 - centre as i64))
+            Mark::Azimuth(exact::reduced_bounded(a.azimuth as i64 - angle))
         }
         Outcome::Refused(refusal) => Mark::Refused(refusal),
     }
@@ -48,8 +44,7 @@ pub fn pointing_with(t: &SineTable, query: Query, angle: i64) -> Mark
     requires { t.now ≡ entries }
     ensures { (pointing_values result ≡ pointing query angle) × MarkReduced (pointing_values result) }
 {
-    let limb = query.options.limb;
-    pointed(t, fieldbook::shot_with(t, query), limb, angle)
+    pointed(fieldbook::shot_with(t, query), angle)
 }
 
 // The same, with a table of its own.
@@ -73,7 +68,7 @@ pub fn pointing_from_card_with(
     let shot = fieldbook::shot_from_card_with(t, card, options);
     let kept = shot.card;
     let outcome = shot.outcome;
-    let mark = pointed(t, outcome, options.limb, angle);
+    let mark = pointed(outcome, angle);
     CardPointing {
         mark: mark,
         card: kept,

@@ -7,7 +7,7 @@ use native.Mathlib.Omega.{arith}
 use Rattle.refusal.specs.RefusalNumbers.{number_of}
 use Rattle.refusal.specs.Tests.{Test, decided}
 use Rattle.refusal.specs.declared.Refusal.{Refusal}
-use Rattle.refusal.specs.declared.Refusal.TheVariants.{NotConfirmed, NoDate, NoTime, NoDut1, NoPosition, NoBody, BelowHorizon, NearZenith, NoField, EmptyField, NoRoom, NotRead, TooLarge, Malformed, NoAngle, NoList, NoDeltaT, NothingToUndo, NoEdition, NoLimb}
+use Rattle.refusal.specs.declared.Refusal.TheVariants.{NotConfirmed, NoDate, NoTime, NoDut1, NoPosition, NoBody, BelowHorizon, NearZenith, NoField, EmptyField, NoRoom, NotRead, TooLarge, Malformed, NoAngle, NoList, NoDeltaT, NothingToUndo, NoEdition}
 
 -- ---- the tests and their numbers
 -- each test has a number, so that 0 is left for no refusal
@@ -63,7 +63,6 @@ number-above-zero NoList = omega arith
 number-above-zero NoDeltaT = omega arith
 number-above-zero NothingToUndo = omega arith
 number-above-zero NoEdition = omega arith
-number-above-zero NoLimb = omega arith
 
 -- a kind of answer that may be a refusal: the refusal's number of each answer, 0 where it is none, and what a refusal is
 pub record Refusable (A : Type 0) : Type 0 where

@@ -2,7 +2,7 @@
 -- stands for no refusal.
 use Rattle.std.specs.Prelude.{ℕ}
 use Rattle.refusal.specs.declared.Refusal.{Refusal}
-use Rattle.refusal.specs.declared.Refusal.TheVariants.{NotConfirmed, NoDate, NoTime, NoDut1, NoPosition, NoBody, BelowHorizon, NearZenith, NoField, EmptyField, NoRoom, NotRead, TooLarge, Malformed, NoAngle, NoList, NoDeltaT, NothingToUndo, NoEdition, NoLimb}
+use Rattle.refusal.specs.declared.Refusal.TheVariants.{NotConfirmed, NoDate, NoTime, NoDut1, NoPosition, NoBody, BelowHorizon, NearZenith, NoField, EmptyField, NoRoom, NotRead, TooLarge, Malformed, NoAngle, NoList, NoDeltaT, NothingToUndo, NoEdition}
 use Rattle.refusal.specs.declared.Verdict.{Verdict}
 use Rattle.refusal.specs.declared.Verdict.TheVariants.{Accepted, Refused}
 
@@ -26,11 +26,10 @@ number_of NoList = 16
 number_of NoDeltaT = 17
 number_of NothingToUndo = 18
 number_of NoEdition = 19
-number_of NoLimb = 20
 
 -- the largest of them
 abbrev pub largest_number : ℕ
-largest_number = 20
+largest_number = 19
 
 abbrev pub verdict_number : Verdict → ℕ
 verdict_number Accepted = 0

@@ -2,7 +2,7 @@
 ghost use Rattle.std.specs.Prelude.{◌≡◌, ◌≤◌};
 ghost use Rattle.refusal.specs.RefusalNumbers.{number_of, largest_number};
 
-// Why a call is refused, in the order of the numbers: 1 to 14 of document 01, 15 to 20 of document 02.
+// Why a call is refused, in the order of the numbers: 1 to 14 of document 01, 15 to 19 of document 02.
 #[derive(Drop)]
 pub enum Refusal {
     // 1: a shot from a card on which some field is not confirmed.
@@ -43,8 +43,6 @@ pub enum Refusal {
     NothingToUndo,
     // 19: no edition of the Sun's series has this number.
     NoEdition,
-    // 20: no limb of the body has this number.
-    NoLimb,
 }
 
 // What a call that gives nothing but a refusal answers.
@@ -78,6 +76,5 @@ pub fn number_of(refusal: Refusal) -> u64
         Refusal::NoDeltaT => 17,
         Refusal::NothingToUndo => 18,
         Refusal::NoEdition => 19,
-        Refusal::NoLimb => 20,
     }
 }

@@ -1,4 +1,4 @@
--- A line longer than 279 bytes is malformed in every program, whatever it holds; so the first 280 bytes of a line are answered as the whole line is.
+-- A line longer than 259 bytes is malformed in every program, whatever it holds; so the first 260 bytes of a line are answered as the whole line is.
 use mathlib.Core.Path.{◌≡◌, refl, sym, ap, ◌∙◌}
 use mathlib.Core.Bool.{Bool, true, false, cond}
 use mathlib.Core.Logic.{◌⊎◌, inl, inr, ⊎_elim}
@@ -131,7 +131,7 @@ long-batch : (q : Question) (l : List ℕ) → longest_line < length l → batch
 unfolding batch_reply
 long-batch q l h = rw (long-asked q l h)
 
--- what is the same for all long lines, the first 280 bytes tell
+-- what is the same for all long lines, the first 260 bytes tell
 told-by-first : {A : Type 0} (f : List ℕ → A) (a : A) → ((l : List ℕ) → longest_line < length l → f l ≡ a)
     → (l : List ℕ) → f (take (suc longest_line) l) ≡ f l
 told-by-first f a long l = by_order (length l) (suc longest_line) (λ h. ap f (take_all (suc longest_line) l h)) λ h.

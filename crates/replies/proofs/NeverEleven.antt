@@ -85,7 +85,7 @@ module _ (c : Card) (f : ℤ) where
 -- a shot and its pointing, by the shot's tests
 tests-are-not : (x : Query) → Each (λ k. NotEleven (refusal_text k)) (tests x)
 unfolding decimal_text decimal decimal_in
-tests-are-not x = (tell 2 refl, (tell 3 refl, (tell 4 refl, (tell 17 refl, (tell 5 refl, (tell 6 refl, (tell 19 refl, (tell 20 refl, (tell 7 refl, (tell 8 refl, tt))))))))))
+tests-are-not x = (tell 2 refl, (tell 3 refl, (tell 4 refl, (tell 17 refl, (tell 5 refl, (tell 6 refl, (tell 19 refl, (tell 7 refl, (tell 8 refl, tt)))))))))
 
 card-shot-is-not : (c : Card) → NotEleven (shot_text Session (shot_from_card c defaults))
 unfolding shot_from_card decimal_text decimal decimal_in
@@ -109,7 +109,7 @@ module _ (x : Query) where
   mark-is-not : (angle : ℤ) → NotEleven (mark_text (pointing x angle))
   unfolding pointed decimal_text decimal decimal_in
   mark-is-not angle =
-      let v = Mark.answered (Mark.mark_azimuth (shot x) x.options.limb angle) in
+      let v = Mark.answered (Mark.mark_azimuth (shot x).azimuth angle) in
       holds-decided (λ a. NotEleven (mark_text a)) (pointing_tests (shot x) angle) v Mark.refused (differs 0 (mark_text v) refl) (refused-mark-is-not, (tell 15 refl, tt))
 
 editions-is-not : (t : CivilTime) → NotEleven (editions_text (editions t))

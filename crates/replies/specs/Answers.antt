@@ -1,4 +1,4 @@
--- Document 01, "One session, whole", and document 02, requests 1, 7, 8 and 9 (RULES.md, "Lines"): what a line is answered, and the card after it. An answer is a
+-- Document 01, "One session, whole", and document 02, requests 1, 7 and 8 (RULES.md, "Lines"): what a line is answered, and the card after it. An answer is a
 -- line of ASCII bytes that ends in a newline.
 use Rattle.std.specs.Prelude.{Bool, cond, ◌&&◌, List, [], ◌∷◌, ◌++◌, ℕ, suc, ◌+◌, eqb, leb, ℤ, length}
 use Rattle.refusal.specs.Tests.{decided}
@@ -84,10 +84,9 @@ numbers_asked Shot = field_count
 numbers_asked Pointing = suc field_count
 numbers_asked Editions = number_count
 
--- how many options may stand behind them, in their order: of a shot the edition alone, which is the first, as its answer has nothing of a limb; of a
--- pointing all
+-- behind those of a shot or a pointing options may stand, in their order
 abbrev pub options_asked : Question → ℕ
-options_asked Shot = 1
+options_asked Shot = option_count
 options_asked Pointing = option_count
 options_asked Editions = 0
 

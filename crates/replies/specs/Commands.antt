@@ -24,9 +24,9 @@ session_command [] = Malformed
 session_command (letter ∷ []) = cond (eqb letter 83) Shoot Malformed
 session_command (letter ∷ space ∷ l) = cond (eqb space 32) (letter_command letter (numbers_of 9 l)) Malformed
 
--- the longest line that is not malformed, of any program: fourteen numbers of "-" and 18 digits, and the spaces between. (proofs/LongLines.antt)
+-- the longest line that is not malformed, of any program: thirteen numbers of "-" and 18 digits, and the spaces between. (proofs/LongLines.antt)
 abbrev pub longest_line : ℕ
-longest_line = 279
+longest_line = 259
 
 -- `H 5 -50`
 hears : session_command (72 ∷ 32 ∷ 53 ∷ 32 ∷ 45 ∷ 53 ∷ 48 ∷ []) ≡ Hear (pos 5) (neg_ℤ (pos 50))

@@ -29,9 +29,6 @@ const BATCH_DIGITS: usize = 18;
 // The most bytes that an answer takes, without its newline.
 const LONGEST: usize = 106;
 
-// How many options the line of a shot may name: the edition, which stands first. Its answer has nothing of a limb, so that it names none.
-const SHOT_OPTIONS: usize = 1;
-
 // Which program's lines.
 #[derive(Drop)]
 pub enum Protocol {
@@ -46,8 +43,8 @@ pub enum Protocol {
 pub enum Question {
     // A shot: a number for each field, in the order of the card.
     Shot,
-    // A pointing: these, and behind them the horizontal angle, clockwise from the mark to the body's limb in units of 0.0001 second of arc.
-    // Behind the numbers of either may stand options, in their order: of a shot the edition, of a pointing the edition and the limb.
+    // A pointing: these, and behind them the horizontal angle, clockwise from the mark to the body in units of 0.0001 second of arc.
+    // Behind the numbers of either may stand options, in their order.
     Pointing,
     // Both editions of the Sun's series at an instant: fields 1 to 7 and 11 of the card.
     Editions,
@@ -229,7 +226,7 @@ fn options_asked(question: Question) -> usize
     ensures { result ≡ options_asked question }
 {
     match question {
-        Question::Shot => SHOT_OPTIONS,
+        Question::Shot => fieldbook::OPTIONS,
         Question::Pointing => fieldbook::OPTIONS,
         Question::Editions => 0,
     }

@@ -15,8 +15,7 @@ use Rattle.calendar.specs.Time as Time
 use Rattle.calendar.specs.Time.{leap_second_day, last_millisecond, is_time, day_millisecond, is_dut1, is_delta_t, since1900, instant, instant_epochs, accepted, instant_tests, instant_of}
 use Rattle.calendar.specs.declared.CivilTime.{CivilTime}
 use Rattle.calendar.proofs.AcceptedRange.{accepted-in-span}
-use Rattle.sun.specs.Orbit.{aberration_at}
-use Rattle.sun.specs.Longitude.{sun_longitude}
+use Rattle.sun.specs.Longitude.{aberration}
 use Rattle.sun.proofs.ShortCost.{short-costs, short-cost-le, short-cost-last}
 use Rattle.short_series.specs.Editions.{EditionsValues, refused, compared_at, editions}
 
@@ -24,10 +23,10 @@ abbrev Bounded : EditionsValues → Type 0
 Bounded v = v.apart ≤ v.bound
 
 pub apart-within-bound : (t : CivilTime) → Bounded (editions t)
-unfolding editions compared_at sun_longitude
+unfolding editions compared_at
 apart-within-bound t =
     let e = (instant_epochs t).ephemeris in
-    holds-decided Bounded (instant_tests t) (compared_at e) refused (short-costs (aberration_at e) e) (lit≤ tt, (lit≤ tt, (lit≤ tt, (lit≤ tt, tt))))
+    holds-decided Bounded (instant_tests t) (compared_at e) refused (short-costs aberration e) (lit≤ tt, (lit≤ tt, (lit≤ tt, (lit≤ tt, tt))))
 
 abbrev Small : EditionsValues → Type 0
 Small v = v.bound ≤ 227_810

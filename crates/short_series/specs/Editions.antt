@@ -7,7 +7,7 @@ use Rattle.exact.specs.Reduction.{short_way}
 use Rattle.epoch.specs.declared.Epoch.{Epoch}
 use Rattle.calendar.specs.Time.{instant_epochs, instant_tests}
 use Rattle.calendar.specs.declared.CivilTime.{CivilTime}
-use Rattle.sun.specs.Longitude.{sun_longitude}
+use Rattle.sun.specs.Longitude.{aberration, apparent_longitude}
 use Rattle.sun.specs.ShortCost.{short_cost}
 use Rattle.short_series.specs.declared.Comparison.{Comparison}
 use Rattle.short_series.specs.declared.Answer.{Answer}
@@ -55,8 +55,8 @@ editions_values (Refused r) = refused (number_of r)
 -- at an epoch of ephemeris time: the bound has its q too
 unfoldable pub compared_at : Epoch → EditionsValues
 compared_at e =
-    let short = sun_longitude (pos 1) e in
-    let full = sun_longitude (pos 2) e in
+    let short = apparent_longitude (pos 1) aberration e in
+    let full = apparent_longitude (pos 2) aberration e in
     record { refusal = 0; short = short; full = full; apart = short_way short full; bound = short_cost e.q }
 
 -- the tests are those of an instant, 2, 3, 4 and 17

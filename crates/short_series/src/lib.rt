@@ -54,7 +54,7 @@ fn compared_at(t: &SineTable, e: Epoch) -> Comparison
 {
     let arguments = arguments::arguments_of(e);
     let dpsi = frame::dpsi(t, &arguments, e);
-    let s = sun::both_longitudes(t, &arguments, e, dpsi);
+    let s = sun::both_longitudes(t, &arguments, e, dpsi, sun::ABERRATION);
     Comparison {
         short: s.short,
         full: s.full,

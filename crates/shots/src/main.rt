@@ -1,5 +1,4 @@
-// The batch of shots: the eleven numbers of a shot on each line of standard input, perhaps with the edition behind them; its angles, or its refusal, on
-// standard output.
+// The batch of shots: the eleven numbers of a shot on each line of standard input; its angles, or its refusal, on standard output.
 use replies::{Protocol, Question};
 
 fn main() {

@@ -1,11 +1,10 @@
--- On 0..Q Sin does not fall and Cos does not rise; between an angle and its supplement no sine is less than theirs; and no sine or cosine is beyond R.
-use mathlib.Core.Path.{◌≡◌, ap, ◌∙◌}
+-- On 0..Q Sin does not fall and Cos does not rise; and no sine or cosine is beyond R.
+use mathlib.Core.Path.{◌≡◌}
 use Prim.Native.Nat.{ℕ, suc, ◌+◌, ◌-◌, ◌*◌, ◌/◌, ◌%◌, ◌≤◌, ◌<◌}
 use native.Mathlib.Nat.{le_refl}
-use native.Mathlib.Decide.{dec_le}
 use native.Mathlib.Omega.{arith}
 use lib.Dec.{lit<, le→leb}
-use lib.IntN.{ℤ, pos, nat_abs}
+use lib.IntN.{ℤ, nat_abs}
 use lib.Signed.{◌≤ℤ◌}
 use Rattle.exact.specs.Reduction.{Q, turn}
 use Rattle.exact.proofs.Integers.{abs_neg}
@@ -16,7 +15,7 @@ use Rattle.sine_table.specs.Table.{R, entry_at}
 use Rattle.sine.specs.Sine.{sin_quadrant, Sin, Cos}
 use Rattle.sine_table.proofs.TableRule.{entry-climbs}
 use Rattle.sine.proofs.Quadrant.{sin-at, sin-top}
-use Rattle.sine.proofs.Extension.{on-turn, sin-1, sin-2, cos-1, folded}
+use Rattle.sine.proofs.Extension.{on-turn, sin-1, cos-1, folded}
 
 -- one unit further in an interval
 step-on : (n u v : ℕ) → suc u + v ≡ step → n < Q / step → sin_quadrant (step * n + v) ≤ sin_quadrant (step * n + suc v)
@@ -47,17 +46,6 @@ sin-does-not-fall a b h k = rw (sin-1 a (omega arith), sin-1 b k) (record { le =
 pub cos-does-not-rise : (a b : ℕ) → a ≤ b → b ≤ Q → Cos b ≤ℤ Cos a
 cos-does-not-rise a b h k =
     rw (cos-1 a (omega arith), cos-1 b k) (record { le = le→leb _ _ (sin-climbs (Q - b) (Q - a) (omega arith) (omega arith)) })
-
--- no angle from a to its supplement has a smaller sine than a: one of the second quadrant has that of its own supplement
-pub sin-least-between : (a b : ℕ) → a ≤ b → a + b ≤ 2 * Q → Sin a ≤ℤ Sin b
-sin-least-between a b h k = by (dec_le b Q)
-  where
-    by : Dec (b ≤ Q) → Sin a ≤ℤ Sin b
-    by (yes l) = sin-does-not-fall a b h l
-    by (no l) =
-        let m : b ≡ Q + (b - Q) = omega arith in
-        let e : Sin b ≡ pos (sin_quadrant (Q - (b - Q))) = ap Sin m ∙ sin-2 (b - Q) (omega arith) in
-        rw (sin-1 a (omega arith), e) (record { le = le→leb _ _ (sin-climbs a (Q - (b - Q)) (omega arith) (omega arith)) })
 
 -- ---- the range, over the turn
 pub sin-range : (a : ℕ) → a ≤ turn → nat_abs (Sin a) ≤ R

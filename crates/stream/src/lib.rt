@@ -14,7 +14,7 @@ use replies::{Protocol, Question};
 use sine_table::SineTable;
 
 // The bytes that are kept of an unfinished line: one more than the longest line has that is not malformed.
-const KEPT: usize = 280;
+const KEPT: usize = 260;
 
 // The bytes that are read at once, and room for the answers to them: each byte ends one line at most, whose answer and newline take at most 107.
 const CHUNK: usize = 4_096;

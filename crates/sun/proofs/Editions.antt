@@ -107,7 +107,7 @@ module _ (e : Epoch) (q : ℤ) where
 is-short : is_short (pos 1) ≡ true
 is-short = (decide_iff (ℤ_discrete (pos 1) (pos 1))).1 refl
 
-full-is-not-short : pos 2 ≡ pos 1 → ⊥
+pub full-is-not-short : pos 2 ≡ pos 1 → ⊥
 full-is-not-short e = let h : nat_abs (pos 2) ≡ nat_abs (pos 1) = ap nat_abs e in omega arith
 
 is-full : is_short (pos 2) ≡ false

@@ -3,7 +3,7 @@
 -- short edition follows by computation from the lists of terms and the sine's tolerance: the law gives 3 units for the first sum and 1 for Δψ, and so 4
 -- and nothing less. Another list of terms, or another table, changes the figure here and no proof. No bound below 2 holds:
 -- `two-apart` (crate worked_longitudes) is the instant that comes as near to the bound as any known, 1994-03-22 13:19:32.701 with DUT1 and ΔT 0.
-use mathlib.Core.Path.{◌≡◌, ap, ap₂, subst⁻¹, ◌∙◌}
+use mathlib.Core.Path.{◌≡◌, subst⁻¹, ◌∙◌}
 use mathlib.Core.Bool.{Bool, true, false, cond}
 use mathlib.Core.List.{List}
 use Prim.Native.Nat.{ℕ, ◌+◌, ◌*◌, ◌≤◌, ◌<◌}
@@ -64,14 +64,10 @@ longitude-within-tolerance edition aberration e h = by (is_short edition)
     by false = within-bound full_terms aberration (full_arguments_of e) e.q (q-range h)
 
 -- so that a number that is the longitude by the arguments that both share is all that is owed of it
-pub is-longitude : (edition k : ℤ) (e : Epoch) (arguments : List ℤ) (sum nutation : ℤ) (r : ℕ) → InSpan e → arguments ≡ arguments_of e → sum ≡ first_sum edition e
-    → nutation ≡ dpsi arguments e.q → r ≡ reduced (mean_longitude arguments +ℤ sum +ℤ nutation -ℤ k) → r < turn → IsLongitude edition k e r
-is-longitude edition k e arguments sum nutation r h a f n i l =
-    let is =
-    i
-    ∙ ap₂ (λ (x y : ℤ). reduced (mean_longitude arguments +ℤ x +ℤ y -ℤ k)) f n
-    ∙ ap (λ (l : List ℤ). reduced (mean_longitude l +ℤ first_sum edition e +ℤ dpsi l e.q -ℤ k)) a
-    ∙ longitude-is edition k e in
+pub is-longitude : (edition k : ℤ) (e : Epoch) (r : ℕ) → InSpan e → r ≡ reduced (mean_longitude (arguments_of e) +ℤ first_sum edition e +ℤ dpsi (arguments_of e) e.q -ℤ k)
+    → r < turn → IsLongitude edition k e r
+is-longitude edition k e r h i l =
+    let is = i ∙ longitude-is edition k e in
     record {
       value = is;
       range = l;

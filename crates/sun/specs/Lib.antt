@@ -1,9 +1,6 @@
 pub mod Series
 pub mod Editions
 pub mod Tolerance
-pub mod Sizes
-pub mod Orbit
 pub mod Longitude
-pub mod SumsContract
 pub mod Direction
 pub mod ShortCost

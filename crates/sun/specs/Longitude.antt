@@ -1,17 +1,22 @@
 -- Document 01, "The Sun" (RULES.md, "The Sun"): the apparent longitude s, the polynomial longitude beside it, and the angle g of "Polaris", in units.
 use Rattle.std.specs.Prelude.{◌≡◌, List, ℕ, ◌≤◌, ◌<◌, ℤ, pos, ◌+ℤ◌, ◌-ℤ◌, get_or}
 use Rattle.exact.specs.Reduction.{turn, reduced, short_way}
+use Rattle.exact.specs.Decimal.{plus, arc_seconds}
 use Rattle.epoch.specs.declared.Epoch.{Epoch}
 use Rattle.arguments.specs.PrintedArguments.{L}
 use Rattle.series.specs.Term.{Term}
 use Rattle.series.specs.Sum.{table_sum, polynomial_sum}
 use Rattle.frame.specs.Nutation.{dpsi, dpsi_terms}
+use Rattle.sun.specs.Series.{centre}
 use Rattle.sun.specs.Editions.{terms_of, arguments_for}
 use Rattle.sun.specs.Tolerance.{longitude_tolerance}
-use Rattle.sun.specs.Orbit.{equation_of_centre, aberration_at}
 
 abbrev pub mean_longitude : List ℤ → ℤ
 mean_longitude arguments = get_or arguments L (pos 0)
+
+-- the constant of aberration, in units
+unfoldable pub aberration : ℤ
+aberration = arc_seconds (plus 20_496 3)
 
 -- 01′s first sum, by an edition at an epoch: all its terms are rounded together
 unfoldable pub first_sum : ℤ → Epoch → ℤ
@@ -26,18 +31,18 @@ unfoldable pub polynomial_by : List Term → ℤ → List ℤ → ℤ → ℕ
 polynomial_by terms aberration arguments q =
     reduced (mean_longitude arguments +ℤ polynomial_sum arguments q terms +ℤ polynomial_sum arguments q dpsi_terms -ℤ aberration)
 
--- 01′s s and its polynomial longitude, by an edition at an epoch, with any aberration
+-- 01′s s and its polynomial longitude, by an edition at an epoch
 unfoldable pub apparent_longitude : ℤ → ℤ → Epoch → ℕ
 apparent_longitude edition aberration e = longitude_by (terms_of edition) aberration (arguments_for edition e) e.q
 
 unfoldable pub polynomial_longitude : ℤ → ℤ → Epoch → ℕ
 polynomial_longitude edition aberration e = polynomial_by (terms_of edition) aberration (arguments_for edition e) e.q
 
--- s with the aberration of the epoch, request 9
-unfoldable pub sun_longitude : ℤ → Epoch → ℕ
-sun_longitude edition e = apparent_longitude edition (aberration_at e) e
+-- the centre terms alone, rounded as the first sum is
+unfoldable pub equation_of_centre : List ℤ → ℤ → ℤ
+equation_of_centre arguments q = table_sum arguments q centre
 
--- 01′s g: L with the centre terms alone
+-- 01′s g
 unfoldable pub centre_longitude : List ℤ → ℤ → ℕ
 centre_longitude arguments q = reduced (mean_longitude arguments +ℤ equation_of_centre arguments q)
 

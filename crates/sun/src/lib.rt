@@ -1,10 +1,8 @@
-// The Sun by Newcomb's series: the equation of the centre, the radius vector, the apparent longitude and the direction; what its short edition
-// leaves out. Document 01, "The Sun"; document 02, requests 7, 8 and 9.
-mod orbit;
+// The Sun by Newcomb's series: the equation of the centre, the apparent longitude and the direction; what its short edition leaves out.
+// Document 01, "The Sun"; document 02, requests 7 and 8.
 mod tables;
 
 ghost use Rattle.std.specs.Prelude.{◌≡◌, ◌+◌, ◌*◌, ◌≤◌, ◌<◌, ◌^◌, ℤ, pos, nat_abs, ◌+ℤ◌, ◌-ℤ◌};
-ghost use Rattle.exact.specs.Division.{nearest_div};
 ghost use Rattle.exact.specs.Reduction.{turn, reduced};
 ghost use Rattle.secular.specs.Sizes.{most_millionths};
 ghost use Rattle.sine_table.specs.Table.{R, entries};
@@ -16,34 +14,15 @@ ghost use Rattle.arguments.specs.PrintedArguments.{arguments_of, full_arguments_
 ghost use Rattle.arguments.specs.Sizes.{IsArguments};
 ghost use Rattle.series.specs.Sum.{total};
 ghost use Rattle.frame.specs.Nutation as Nutation;
-ghost use Rattle.sun.specs.Series.{centre, periodic, further};
-ghost use Rattle.sun.specs.Sizes.{RadiusSized};
-ghost use Rattle.sun.specs.Orbit.{radius_vector, aberration_at};
-ghost use Rattle.sun.specs.SumsContract.{AreSums};
-ghost use Rattle.sun.specs.Longitude.{mean_longitude, centre_longitude, IsLongitude};
+ghost use Rattle.sun.specs.Series.{centre, periodic, short_terms, further, full_terms};
+ghost use Rattle.sun.specs.Longitude.{mean_longitude, first_sum, equation_of_centre, centre_longitude, IsLongitude};
 ghost use Rattle.sun.specs.ShortCost.{short_cost};
 ghost use Rattle.sun.specs.Direction.{direction};
 
 use epoch::Epoch;
-pub use orbit::{aberration, at_distance};
 use rotation::Direction;
 use sine_table::SineTable;
-
-// The exact sums at an epoch, before they are divided by R: of the terms of the short edition, and of those of the edition that is asked for;
-// and the radius vector r, in units of 10^−9 of the mean distance.
-#[derive(Drop)]
-struct Sums {
-    short: i64,
-    asked: i64,
-    radius_vector: u64,
-}
-
-// The Sun's place: the apparent longitude s, reduced, in units, and r.
-#[derive(Drop)]
-pub struct Place {
-    pub longitude: u64,
-    pub radius_vector: u64,
-}
+pub use tables::ABERRATION;
 
 // The apparent longitude by either edition, reduced, in units.
 #[derive(Drop)]
@@ -67,13 +46,20 @@ fn centre_sum(t: &SineTable, arguments: &[i64], q: i64) -> i64
     )
 }
 
+// The equation of the centre at an epoch, from its arguments, in units.
+pub fn equation_of_centre(t: &SineTable, arguments: &[i64], e: Epoch) -> i64
+    requires { (t.now ≡ entries) × IsArguments arguments.now × InSpan e }
+    ensures { (result ≡ equation_of_centre arguments.now e.q) × (nat_abs result ≤ 2 ^ 27) }
+{
+    series::rounded(centre_sum(t, arguments, e.q))
+}
+
 // The mean longitude with the equation of the centre alone, reduced: document 01′s g, for the aberration of a star.
 pub fn centre_longitude(t: &SineTable, arguments: &[i64], e: Epoch) -> u64
     requires { (t.now ≡ entries) × IsArguments arguments.now × InSpan e }
     ensures { (result ≡ centre_longitude arguments.now e.q) × (result < turn) }
 {
-    let equation = series::rounded(centre_sum(t, arguments, e.q));
-    orbit::true_angle(arguments[arguments::L], equation)
+    exact::reduced_bounded(arguments[arguments::L] + equation_of_centre(t, arguments, e))
 }
 
 // The exact sum of the long period terms of the short edition, of the Moon's and of those of Venus.
@@ -87,6 +73,14 @@ fn periodic_sum(t: &SineTable, arguments: &[i64]) -> i64
         &tables::PERIODIC_ROWS,
         arguments,
     )
+}
+
+// The exact sum of the terms of the short edition at an epoch.
+fn short_sum(t: &SineTable, arguments: &[i64; arguments::COUNT], e: Epoch) -> i64
+    requires { (t.now ≡ entries) × (arguments.now ≡ arguments_of e) × InSpan e }
+    ensures { (result ≡ total Sin (arguments_of e) e.q short_terms) × (nat_abs result ≤ R * 2 ^ 28) }
+{
+    centre_sum(t, arguments, e.q) + periodic_sum(t, arguments)
 }
 
 // The exact sum of what the full edition adds to the short one at an epoch, from the arguments of both.
@@ -105,71 +99,76 @@ fn further_sum(t: &SineTable, arguments: &[i64; arguments::COUNT], e: Epoch) -> 
     )
 }
 
-// The sums at an epoch by an edition, 1 short or else full. The centre terms are summed once, for r too, and so are the terms that both share.
-fn sums_at(t: &SineTable, edition: i64, arguments: &[i64; arguments::COUNT], e: Epoch) -> Sums
-    requires { (t.now ≡ entries) × (arguments.now ≡ arguments_of e) × InSpan e }
-    ensures { AreSums edition e result }
+// The exact sum of the terms of the full edition, from that of the short one.
+fn full_sum(t: &SineTable, short: i64, arguments: &[i64; arguments::COUNT], e: Epoch) -> i64
+    requires { ((t.now ≡ entries) × (arguments.now ≡ arguments_of e) × InSpan e) × ((short ≡ total Sin (arguments_of e) e.q short_terms) × (nat_abs short ≤ R * 2 ^ 28)) }
+    ensures { (result ≡ total Sin (full_arguments_of e) e.q full_terms) × (nat_abs result ≤ R * 2 ^ 29) }
 {
-    let centre = centre_sum(t, arguments, e.q);
-    let radius_vector = orbit::radius_vector(t, series::rounded(centre), arguments, e);
-    let short = centre + periodic_sum(t, arguments);
-    if edition == 1 {
-        return Sums {
-            short: short,
-            asked: short,
-            radius_vector: radius_vector,
-        };
-    }
-    Sums {
-        short: short,
-        asked: short + further_sum(t, arguments, e),
-        radius_vector: radius_vector,
-    }
+    short + further_sum(t, arguments, e)
 }
 
-// The longitude of an exact sum, which is rounded once, reduced; from the arguments of the epoch, Δψ and the aberration, in units.
-fn longitude_by(sum: i64, arguments: &[i64; arguments::COUNT], dpsi: i64, aberration: i64) -> u64
-    requires { IsArguments arguments.now × (nat_abs sum ≤ R * 2 ^ 29) × (nat_abs dpsi ≤ 2 ^ 20) × (nat_abs aberration ≤ 2 ^ 20) }
-    ensures { (result ≡ reduced (mean_longitude arguments.now +ℤ nearest_div sum R +ℤ dpsi -ℤ aberration)) × (result < turn) }
+// Document 01′s first sum, by an edition at an epoch, in units: all its terms are rounded together.
+fn first_sum(t: &SineTable, edition: i64, arguments: &[i64; arguments::COUNT], e: Epoch) -> i64
+    requires { (t.now ≡ entries) × (arguments.now ≡ arguments_of e) × InSpan e }
+    ensures { (result ≡ first_sum edition e) × (nat_abs result ≤ 2 ^ 29) }
 {
-    let first_sum = series::rounded(sum);
+    let short = short_sum(t, arguments, e);
+    if edition == 1 {
+        return series::rounded(short);
+    }
+    series::rounded(full_sum(t, short, arguments, e))
+}
+
+// The longitude of a first sum, reduced, from the arguments of the epoch, Δψ and the aberration, in units.
+fn longitude_by(
+    first_sum: i64,
+    arguments: &[i64; arguments::COUNT],
+    dpsi: i64,
+    aberration: i64,
+) -> u64
+    requires { IsArguments arguments.now × (nat_abs first_sum ≤ 2 ^ 29) × (nat_abs dpsi ≤ 2 ^ 20) × (nat_abs aberration ≤ 2 ^ 20) }
+    ensures { (result ≡ reduced (mean_longitude arguments.now +ℤ first_sum +ℤ dpsi -ℤ aberration)) × (result < turn) }
+{
     exact::reduced_bounded(arguments[arguments::L] + first_sum + dpsi - aberration)
 }
 
-// The Sun's place at an epoch by an edition, 1 short or else full, from its arguments and Δψ.
-pub fn apparent_place(
+// The Sun's apparent longitude s by an edition, 1 short or else full, at an epoch, reduced, from its arguments, Δψ and the aberration, in
+// units.
+pub fn apparent_longitude(
     t: &SineTable,
     edition: i64,
     arguments: &[i64; arguments::COUNT],
     e: Epoch,
     dpsi: i64,
-) -> Place
-    requires { ((t.now ≡ entries) × (arguments.now ≡ arguments_of e) × InSpan e) × ((dpsi ≡ Nutation.dpsi arguments.now e.q) × (nat_abs dpsi ≤ 2 ^ 20)) }
-    ensures { IsLongitude edition (aberration_at e) e result.longitude × (result.radius_vector ≡ radius_vector e) × RadiusSized result.radius_vector }
+    aberration: i64,
+) -> u64
+    requires { ((t.now ≡ entries) × (arguments.now ≡ arguments_of e) × InSpan e) × ((dpsi ≡ Nutation.dpsi arguments.now e.q) × (nat_abs dpsi ≤ 2 ^ 20)) × (nat_abs aberration ≤ 2 ^ 20) }
+    ensures { IsLongitude edition aberration e result }
 {
-    let sums = sums_at(t, edition, arguments, e);
-    let aberration = orbit::aberration(sums.radius_vector);
-    Place {
-        longitude: longitude_by(sums.asked, arguments, dpsi, aberration),
-        radius_vector: sums.radius_vector,
-    }
+    longitude_by(
+        first_sum(t, edition, arguments, e),
+        arguments,
+        dpsi,
+        aberration,
+    )
 }
 
-// The apparent longitude by both editions, the terms that they share summed once.
+// The same by both editions, the terms that they share summed once.
 pub fn both_longitudes(
     t: &SineTable,
     arguments: &[i64; arguments::COUNT],
     e: Epoch,
     dpsi: i64,
+    aberration: i64,
 ) -> Longitudes
-    requires { ((t.now ≡ entries) × (arguments.now ≡ arguments_of e) × InSpan e) × ((dpsi ≡ Nutation.dpsi arguments.now e.q) × (nat_abs dpsi ≤ 2 ^ 20)) }
-    ensures { IsLongitude (pos 1) (aberration_at e) e result.short × IsLongitude (pos 2) (aberration_at e) e result.full }
+    requires { ((t.now ≡ entries) × (arguments.now ≡ arguments_of e) × InSpan e) × ((dpsi ≡ Nutation.dpsi arguments.now e.q) × (nat_abs dpsi ≤ 2 ^ 20)) × (nat_abs aberration ≤ 2 ^ 20) }
+    ensures { IsLongitude (pos 1) aberration e result.short × IsLongitude (pos 2) aberration e result.full }
 {
-    let sums = sums_at(t, 2, arguments, e);
-    let aberration = orbit::aberration(sums.radius_vector);
+    let short = short_sum(t, arguments, e);
+    let full = full_sum(t, short, arguments, e);
     Longitudes {
-        short: longitude_by(sums.short, arguments, dpsi, aberration),
-        full: longitude_by(sums.asked, arguments, dpsi, aberration),
+        short: longitude_by(series::rounded(short), arguments, dpsi, aberration),
+        full: longitude_by(series::rounded(full), arguments, dpsi, aberration),
     }
 }
 

@@ -7,14 +7,6 @@ use secular::{Polynomial, SQUARE};
 // The constant of aberration, in units: 20.496″.
 pub const ABERRATION: i64 = 204_960;
 
-// The eccentricity of the Earth's orbit, in units of 10^−9: 0.01675104 − 0.0000418 T − 0.000000126 T² (source 004).
-pub const ECCENTRICITY: Polynomial = Polynomial {
-    c0: 16_751_040,
-    c1: -41_800,
-    c2: -126,
-    divisor: SQUARE,
-};
-
 // A quadrant, in units: a cosine's phase has one more.
 const Q: i64 = 3_240_000_000;
 

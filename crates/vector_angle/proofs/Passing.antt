@@ -36,7 +36,7 @@ passes-below x y a b h k p =
     (le_trans (leb-true _ _ (sym (passes-is x y b k) ∙ p))
     (mul-le-mul_left y (sin-climbs (Q - b) (Q - a) (omega arith) (omega arith)))))
 
-pub fails-above : (x y : ℕ) → FailsOn (passes x y) Q
+fails-above : (x y : ℕ) → FailsOn (passes x y) Q
 fails-above x y a b h k p = by (passes x y b) refl
   where
     by : (t : Bool) → passes x y b ≡ t → t ≡ false

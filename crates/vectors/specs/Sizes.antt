@@ -2,7 +2,6 @@
 use Rattle.std.specs.Prelude.{◌<◌, ◌^◌, nat_abs}
 use Rattle.exact.specs.Reduction.{turn}
 use Rattle.epoch.specs.Sizes.{InSpan}
-use Rattle.sun.specs.Sizes.{RadiusSized}
 use Rattle.vectors.specs.declared.instant.Quantities.{Quantities}
 
 pub record QuantitiesSized (k : Quantities) : Type 0 where
@@ -12,5 +11,4 @@ pub record QuantitiesSized (k : Quantities) : Type 0 where
   pub epsilon : nat_abs k.frame.epsilon < 2 ^ 40
   pub sidereal : k.sidereal < turn
   pub centre : k.centre < turn
-  pub longitude : k.place.longitude < turn
-  pub radius : RadiusSized k.place.radius_vector
+  pub longitude : k.longitude < turn

@@ -4,7 +4,6 @@ ghost use Rattle.sine_table.specs.Table.{entries};
 
 use crate::{output, words};
 use card::{Card, CardAnswer};
-use fieldbook::Options;
 use sine_table::SineTable;
 
 // The longest buffer that a reading is given.
@@ -41,15 +40,11 @@ pub fn shot(t: &SineTable, card: Card) -> Card
     ended(answer.card)
 }
 
-// The pointing from the card, with a horizontal angle and all the options.
-pub fn pointing(t: &SineTable, card: Card, angle: i64, edition: i64, limb: i64) -> Card
+// The pointing from the card, with a horizontal angle and the default options.
+pub fn pointing(t: &SineTable, card: Card, angle: i64) -> Card
     requires { t.now ≡ entries }
 {
-    let options = Options {
-        edition: edition,
-        limb: limb,
-    };
-    let answer = pointing::pointing_from_card_with(t, card, options, angle);
+    let answer = pointing::pointing_from_card_with(t, card, fieldbook::DEFAULTS, angle);
     let mark = answer.mark;
     output::mark(mark);
     ended(answer.card)

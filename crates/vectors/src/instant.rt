@@ -8,7 +8,6 @@ ghost use Rattle.rotation.specs.Sizes.{reach};
 ghost use Rattle.epoch.specs.Sizes.{InSpan};
 ghost use Rattle.arguments.specs.PrintedArguments.{arguments_of};
 ghost use Rattle.frame.specs.FrameContract.{IsFrame};
-ghost use Rattle.sun.specs.Sizes.{RadiusSized};
 ghost use Rattle.polaris.specs.Sizes.{ElementsSized};
 ghost use Rattle.site.specs.Sizes.{PositionSized};
 ghost use Rattle.card.specs.Fields.{field_count};
@@ -25,17 +24,16 @@ use refusal::Refusal;
 use rotation::Direction;
 use sine_table::SineTable;
 use site::{Position, Site};
-use sun::Place;
 
-// An accepted instant: its epochs, the frame of the date, Greenwich sidereal time, the angle g of the centre terms alone, and the Sun's place, s
-// and r.
+// An accepted instant: its epochs, the frame of the date, Greenwich sidereal time, the angle g of the centre terms alone, and the Sun's apparent
+// longitude s.
 #[derive(Drop)]
 pub struct Quantities {
     pub epochs: Epochs,
     pub frame: Frame,
     pub sidereal: u64,
     pub centre: u64,
-    pub place: Place,
+    pub longitude: u64,
 }
 
 // D of a date.
@@ -51,11 +49,7 @@ pub fn date(year: i64, month: i64, day: i64) {
 pub fn shot(t: &SineTable, fields: &[i64], edition: i64)
     requires { (t.now ≡ entries) × (field_count ≤ length fields.now) }
 {
-    let options = Options {
-        edition: edition,
-        limb: fieldbook::DEFAULTS.limb,
-    };
-    let query = fieldbook::query_with(fields, options);
+    let query = fieldbook::query_with(fields, Options { edition: edition });
     output::shot(fieldbook::shot_with(t, query));
 }
 
@@ -87,21 +81,21 @@ fn quantities_of(t: &SineTable, epochs: Epochs, edition: i64) -> Quantities
         frame: f,
         sidereal: frame::sidereal_time(t, epochs.universal, f.dpsi, f.epsilon),
         centre: sun::centre_longitude(t, &arguments, e),
-        place: place_of(t, edition, &arguments, e, f),
+        longitude: longitude_of(t, edition, &arguments, e, f),
     }
 }
 
-fn place_of(
+fn longitude_of(
     t: &SineTable,
     edition: i64,
     arguments: &[i64; arguments::COUNT],
     e: Epoch,
     f: Frame,
-) -> Place
+) -> u64
     requires { (t.now ≡ entries) × (arguments.now ≡ arguments_of e) × InSpan e × IsFrame arguments.now e.q f }
-    ensures { (result.longitude < turn) × RadiusSized result.radius_vector }
+    ensures { result < turn }
 {
-    sun::apparent_place(t, edition, arguments, e, f.dpsi)
+    sun::apparent_longitude(t, edition, arguments, e, f.dpsi, sun::ABERRATION)
 }
 
 fn answer_at(t: &SineTable, asked: Word, epochs: Epochs, numbers: Numbers, edition: i64)
@@ -130,7 +124,7 @@ fn write_longitude(t: &SineTable, epochs: Epochs, edition: i64)
     }
     let quantities = quantities_of(t, epochs, edition);
     output::accepted();
-    output::natural(quantities.place.longitude);
+    output::natural(quantities.longitude);
 }
 
 // N and its q, then N with ΔT, its q and the arguments, those of the full edition last.
@@ -149,11 +143,10 @@ fn write_sun(t: &SineTable, quantities: Quantities)
     requires { (t.now ≡ entries) × QuantitiesSized quantities }
 {
     let f = quantities.frame;
-    output::natural(quantities.place.longitude);
+    output::natural(quantities.longitude);
     output::integers(&[f.dpsi, difference(f.epsilon, f.epsilon0), f.epsilon]);
     output::natural(quantities.sidereal);
-    let d = sun::direction(t, quantities.place.longitude, f.epsilon);
-    write_equatorial(t, d);
+    write_equatorial(t, sun::direction(t, quantities.longitude, f.epsilon));
 }
 
 fn difference(a: i64, b: i64) -> i64
@@ -211,21 +204,12 @@ fn parts_from(t: &SineTable, quantities: Quantities, position: Position, is_sun:
     write_time(quantities.epochs);
     write_frame(quantities);
     if is_sun {
-        write_place(quantities.place);
+        output::natural(quantities.longitude);
     } else {
         write_polaris(t, quantities);
     }
     angles::write_view(t, d, quantities.sidereal, position);
     output::sight_end(sighting);
-}
-
-// Of the Sun r, in units of 10^−9 of the mean distance, the aberration in longitude at that distance, and s.
-fn write_place(place: Place)
-    requires { RadiusSized place.radius_vector }
-{
-    output::natural(place.radius_vector);
-    output::integer(sun::aberration(place.radius_vector));
-    output::natural(place.longitude);
 }
 
 // Δψ, the mean obliquity, ε, sidereal time and g.
@@ -242,7 +226,7 @@ fn direction_of(t: &SineTable, quantities: Quantities, is_sun: bool) -> Directio
 {
     let f = quantities.frame;
     if is_sun {
-        sun::direction(t, quantities.place.longitude, f.epsilon)
+        sun::direction(t, quantities.longitude, f.epsilon)
     } else {
         polaris::direction(
             t,

@@ -63,7 +63,7 @@ fn answer(t: &SineTable, card: Card, line: &[u8]) -> Card
         Word::Confirm => calls::confirm(card, numbers[0]),
         Word::Undo => calls::undo(card),
         Word::CardShot => calls::shot(t, card),
-        Word::Pointing => calls::pointing(t, card, numbers[0], numbers[1], numbers[2]),
+        Word::Pointing => calls::pointing(t, card, numbers[0]),
         Word::Choice => {
             lists::choice(row);
             card

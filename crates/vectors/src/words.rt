@@ -1,8 +1,8 @@
 // The words of a line, and the bytes that hexadecimal digits stand for.
 ghost use Rattle.std.specs.Prelude.{◌/◌, ◌<◌, ◌≤◌, length};
 
-// What a line asks by its first word, where it has as many numbers as the word takes: of the card, with the horizontal angle, the edition of the
-// Sun's series and the limb for a pointing; of angles; or of the card's fields from the first on, perhaps with an edition behind them.
+// What a line asks by its first word, where it has as many numbers as the word takes: of the card, of angles, or of the card's fields from the
+// first on, perhaps with an edition of the Sun's series behind them.
 #[derive(Drop)]
 pub enum Word {
     Fresh,
@@ -63,7 +63,7 @@ fn numbers_word(word: &[u8], count: usize) -> Word {
     if asks(word, count, b"confirm", 1) {
         return Word::Confirm;
     }
-    if asks(word, count, b"pointing", 3) {
+    if asks(word, count, b"pointing", 1) {
         return Word::Pointing;
     }
     if asks(word, count, b"sine", 1) {

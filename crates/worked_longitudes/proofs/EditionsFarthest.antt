@@ -13,7 +13,7 @@ use Rattle.exact.specs.Reduction.{rest, reduced, short_way}
 use Rattle.secular.specs.FlooredPolynomial as secular
 use Rattle.sine_table.specs.SinePolynomial.{arc, whole, poly_den, cofactor, term, poly_num}
 use Rattle.sine_table.specs.Table.{entry_by}
-use Rattle.sine.specs.Sine.{sin_quadrant, Sin, Cos}
+use Rattle.sine.specs.Sine.{sin_quadrant, Sin}
 use Rattle.epoch.specs.Epoch.{millionths, epoch}
 use Rattle.epoch.specs.declared.Epoch.{Epoch}
 use Rattle.calendar.specs.Date.{leap_year, month_length, year_days, month_days, day_count, is_date}
@@ -28,8 +28,7 @@ use Rattle.series.specs.Compared.{same_angle, same_amplitude, counterpart, other
 use Rattle.frame.specs.Nutation.{dpsi}
 use Rattle.sun.specs.Series.{short_terms, full_terms}
 use Rattle.sun.specs.ShortCost.{short_cost}
-use Rattle.sun.specs.Orbit.{equation_of_centre, true_anomaly, eccentricity, radius_by, radius_vector, aberration, aberration_at}
-use Rattle.sun.specs.Longitude.{longitude_by, sun_longitude}
+use Rattle.sun.specs.Longitude.{aberration, longitude_by}
 use Rattle.sun.proofs.Editions.{short-longitudes, full-longitudes}
 use Rattle.short_series.specs.Editions.{EditionsValues, compared_at, editions}
 use Rattle.worked_longitudes.proofs.FarthestKnown.{civil}
@@ -40,12 +39,12 @@ march2020 = civil 2020 3 22 6 30 0 (pos 0) 0
 abbrev epoch2020 : Epoch
 epoch2020 = epoch (pos 3_793_890_600_000) (pos 1_202_211)
 
-short-2020 : longitude_by short_terms (aberration_at epoch2020) (arguments_of epoch2020) epoch2020.q ≡ 75_308_115
-unfolding longitude_by aberration radius_vector radius_by eccentricity true_anomaly equation_of_centre dpsi table_sum total value secular.value angle_of arguments_of rows argument rest reduced floor_div nearest_div nearest_div_ℕ arc whole poly_den cofactor term poly_num Sin Cos sin_quadrant entry_by
+short-2020 : longitude_by short_terms aberration (arguments_of epoch2020) epoch2020.q ≡ 75_308_836
+unfolding longitude_by aberration dpsi table_sum total value secular.value angle_of arguments_of rows argument rest reduced floor_div nearest_div nearest_div_ℕ arc whole poly_den cofactor term poly_num Sin sin_quadrant entry_by
 short-2020 = refl
 
-full-2020 : longitude_by full_terms (aberration_at epoch2020) (full_arguments_of epoch2020) epoch2020.q ≡ 75_465_414
-unfolding longitude_by aberration radius_vector radius_by eccentricity true_anomaly equation_of_centre dpsi table_sum total value secular.value angle_of arguments_of full_arguments_of rows further_rows argument rest reduced floor_div nearest_div nearest_div_ℕ arc whole poly_den cofactor term poly_num Sin Cos sin_quadrant entry_by
+full-2020 : longitude_by full_terms aberration (full_arguments_of epoch2020) epoch2020.q ≡ 75_466_135
+unfolding longitude_by aberration dpsi table_sum total value secular.value angle_of arguments_of full_arguments_of rows further_rows argument rest reduced floor_div nearest_div nearest_div_ℕ arc whole poly_den cofactor term poly_num Sin sin_quadrant entry_by
 full-2020 = refl
 
 abbrev worked : ℕ → ℕ → EditionsValues
@@ -55,13 +54,13 @@ bound-2020 : short_cost epoch2020.q ≡ 227_763
 unfolding short_cost changes counterpart others same_angle same_amplitude costs secular.value nearest_div floor_div
 bound-2020 = refl
 
-compared-2020 : compared_at epoch2020 ≡ worked 75_308_115 75_465_414
-unfolding compared_at sun_longitude
+compared-2020 : compared_at epoch2020 ≡ worked 75_308_836 75_466_135
+unfolding compared_at
 compared-2020 =
-    rw ((short-longitudes (aberration_at epoch2020) epoch2020).0 ∙ short-2020, (full-longitudes (aberration_at epoch2020) epoch2020).0 ∙ full-2020, bound-2020) refl
+    rw ((short-longitudes aberration epoch2020).0 ∙ short-2020, (full-longitudes aberration epoch2020).0 ∙ full-2020, bound-2020) refl
 
 -- the eight numbers are answered so
-pub farthest-known : editions march2020 ≡ record { refusal = 0; short = 75_308_115; full = 75_465_414; apart = 157_299; bound = 227_763 }
+pub farthest-known : editions march2020 ≡ record { refusal = 0; short = 75_308_836; full = 75_466_135; apart = 157_299; bound = 227_763 }
 unfolding editions short_way instant millionths since1900 day_millisecond is_dut1 is_delta_t is_time last_millisecond leap_second_day is_date day_count month_days year_days month_length leap_year between floor_div
 farthest-known = compared-2020
 

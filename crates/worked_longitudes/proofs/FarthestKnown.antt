@@ -11,7 +11,7 @@ use Rattle.exact.specs.Range.{between}
 use Rattle.secular.specs.FlooredPolynomial as secular
 use Rattle.sine_table.specs.SinePolynomial.{arc, whole, poly_den, cofactor, term, poly_num}
 use Rattle.sine_table.specs.Table.{entry_by}
-use Rattle.sine.specs.Sine.{poly_at, sin_quadrant, Sin, Cos}
+use Rattle.sine.specs.Sine.{poly_at, sin_quadrant, Sin}
 use Rattle.epoch.specs.Epoch.{millionths, epoch}
 use Rattle.epoch.specs.declared.Epoch.{Epoch}
 use Rattle.calendar.specs.Date.{leap_year, month_length, year_days, month_days, day_count, is_date}
@@ -24,8 +24,7 @@ use Rattle.series.specs.Term.{angle_of, value}
 use Rattle.series.specs.Sum.{total, table_sum, polynomial_sum}
 use Rattle.frame.specs.Nutation.{dpsi}
 use Rattle.sun.specs.Series.{short_terms, full_terms}
-use Rattle.sun.specs.Orbit.{equation_of_centre, true_anomaly, eccentricity, radius_by, radius_vector, aberration, aberration_at}
-use Rattle.sun.specs.Longitude.{longitude_by, polynomial_by, apparent_longitude, polynomial_longitude}
+use Rattle.sun.specs.Longitude.{aberration, longitude_by, polynomial_by, apparent_longitude, polynomial_longitude}
 use Rattle.sun.proofs.Editions.{short-longitudes, full-longitudes}
 
 -- fields 1 to 7 and 11 of an instant
@@ -57,12 +56,12 @@ april1996 = civil 1996 4 10 5 42 5_618 (pos 0) 0
 abbrev pub epoch1996 : Epoch
 epoch1996 = epoch (pos 3_038_146_925_618) (pos 962_730)
 
--- s, the polynomial longitude and their distance at an epoch, by an edition, both with the aberration of that epoch (request 9)
+-- s, the polynomial longitude and their distance at an epoch, by an edition
 abbrev pub apparent_at : ℤ → Epoch → ℕ
-apparent_at edition e = apparent_longitude edition (aberration_at e) e
+apparent_at edition e = apparent_longitude edition aberration e
 
 abbrev pub polynomial_at : ℤ → Epoch → ℕ
-polynomial_at edition e = polynomial_longitude edition (aberration_at e) e
+polynomial_at edition e = polynomial_longitude edition aberration e
 
 abbrev pub distance : ℤ → Epoch → ℕ
 distance edition e = short_way (apparent_at edition e) (polynomial_at edition e)
@@ -77,38 +76,38 @@ unfolding instant_of instant millionths since1900 day_millisecond is_dut1 is_del
 accepted-1996 = refl
 
 -- ---- their longitudes, by the lists of terms
-apparent-1994 : longitude_by short_terms (aberration_at epoch1994) (arguments_of epoch1994) epoch1994.q ≡ 60_802_920
-unfolding longitude_by aberration radius_vector radius_by eccentricity true_anomaly equation_of_centre dpsi table_sum total value secular.value angle_of arguments_of rows argument rest reduced floor_div nearest_div nearest_div_ℕ arc whole poly_den cofactor term poly_num Sin Cos sin_quadrant entry_by
+apparent-1994 : longitude_by short_terms aberration (arguments_of epoch1994) epoch1994.q ≡ 60_803_640
+unfolding longitude_by aberration dpsi table_sum total value secular.value angle_of arguments_of rows argument rest reduced floor_div nearest_div nearest_div_ℕ arc whole poly_den cofactor term poly_num Sin sin_quadrant entry_by
 apparent-1994 = refl
 
-polynomial-1994 : polynomial_by short_terms (aberration_at epoch1994) (arguments_of epoch1994) epoch1994.q ≡ 60_802_922
-unfolding polynomial_by aberration radius_vector radius_by eccentricity true_anomaly equation_of_centre table_sum polynomial_sum total value secular.value angle_of arguments_of rows argument rest reduced floor_div nearest_div nearest_div_ℕ arc whole poly_den cofactor term poly_num poly_at Sin Cos sin_quadrant entry_by
+polynomial-1994 : polynomial_by short_terms aberration (arguments_of epoch1994) epoch1994.q ≡ 60_803_642
+unfolding polynomial_by aberration polynomial_sum total value secular.value angle_of arguments_of rows argument rest reduced floor_div nearest_div arc whole poly_den cofactor term poly_num poly_at
 polynomial-1994 = refl
 
-apparent-1996 : longitude_by full_terms (aberration_at epoch1996) (full_arguments_of epoch1996) epoch1996.q ≡ 742_947_622
-unfolding longitude_by aberration radius_vector radius_by eccentricity true_anomaly equation_of_centre dpsi table_sum total value secular.value angle_of arguments_of full_arguments_of rows further_rows argument rest reduced floor_div nearest_div nearest_div_ℕ arc whole poly_den cofactor term poly_num Sin Cos sin_quadrant entry_by
+apparent-1996 : longitude_by full_terms aberration (full_arguments_of epoch1996) epoch1996.q ≡ 742_947_216
+unfolding longitude_by aberration dpsi table_sum total value secular.value angle_of arguments_of full_arguments_of rows further_rows argument rest reduced floor_div nearest_div nearest_div_ℕ arc whole poly_den cofactor term poly_num Sin sin_quadrant entry_by
 apparent-1996 = refl
 
-polynomial-1996 : polynomial_by full_terms (aberration_at epoch1996) (full_arguments_of epoch1996) epoch1996.q ≡ 742_947_624
-unfolding polynomial_by aberration radius_vector radius_by eccentricity true_anomaly equation_of_centre table_sum polynomial_sum total value secular.value angle_of arguments_of full_arguments_of rows further_rows argument rest reduced floor_div nearest_div nearest_div_ℕ arc whole poly_den cofactor term poly_num poly_at Sin Cos sin_quadrant entry_by
+polynomial-1996 : polynomial_by full_terms aberration (full_arguments_of epoch1996) epoch1996.q ≡ 742_947_218
+unfolding polynomial_by aberration polynomial_sum total value secular.value angle_of arguments_of full_arguments_of rows further_rows argument rest reduced floor_div nearest_div arc whole poly_den cofactor term poly_num poly_at
 polynomial-1996 = refl
 
 -- ---- the theorems: of an edition, an accepted instant, its two longitudes, and their distance the short way round
 abbrev TwoApart : ℤ → CivilTime → Epoch → ℕ → ℕ → Type 0
 TwoApart edition t e s p = (instant_of t ≡ accepted (both e)) × (apparent_at edition e ≡ s) × (polynomial_at edition e ≡ p) × (distance edition e ≡ 2)
 
-pub two-apart : TwoApart (pos 1) march1994 epoch1994 60_802_920 60_802_922
+pub two-apart : TwoApart (pos 1) march1994 epoch1994 60_803_640 60_803_642
 unfolding short_way
 two-apart =
-    let l = short-longitudes (aberration_at epoch1994) epoch1994 in
+    let l = short-longitudes aberration epoch1994 in
     let s = l.0 ∙ apparent-1994 in
     let p = l.1 ∙ polynomial-1994 in
     (accepted-1994, s, p, ap₂ short_way s p)
 
-pub full-two-apart : TwoApart (pos 2) april1996 epoch1996 742_947_622 742_947_624
+pub full-two-apart : TwoApart (pos 2) april1996 epoch1996 742_947_216 742_947_218
 unfolding short_way
 full-two-apart =
-    let l = full-longitudes (aberration_at epoch1996) epoch1996 in
+    let l = full-longitudes aberration epoch1996 in
     let s = l.0 ∙ apparent-1996 in
     let p = l.1 ∙ polynomial-1996 in
     (accepted-1996, s, p, ap₂ short_way s p)

@@ -1,8 +1,6 @@
 -- Each call gives what the definition names.
-use mathlib.Core.Path.{refl, sym, ◌∙◌}
-use mathlib.Core.Bool.{true≢false, decide_iff}
+use mathlib.Core.Path.{refl}
 use native.Mathlib.Omega.{arith}
-use lib.IntN.{pos, ℤ_discrete}
 use mir.Facts.{to_z-of_z}
 use borrow.Author.Rules.{rules}
 use Rattle.fieldbook.specs.Parts.{polaris_shot}
@@ -42,7 +40,7 @@ returns c =
     let h = s.requires.1 in
     let vector = simp (to_z-of_z, epsilon0-fits k h, dpsi-fits k h, epsilon-fits k h) at d.direction.ensures.0 in
     let seen = polaris-is k h _ _ g.centre-longitude.ensures.0 vector in
-    (shot-is k h s.args.position seen refl (c.sighted-shot.ensures.0 _ c.before.sight.ensures.0), c.sighted-shot.ensures.1 (pos 1) (λ e. absurd (true≢false (sym ((decide_iff (ℤ_discrete (pos 1) (pos 1))).1 refl) ∙ e))))
+    shot-is k h s.args.position seen refl (c.sighted-shot.ensures.0 _ c.before.sight.ensures.0, c.sighted-shot.ensures.1)
 
 pub polaris-shot-spec : {M : Type 1} → statement M
 polaris-shot-spec = tie.close

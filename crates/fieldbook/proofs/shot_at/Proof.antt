@@ -5,7 +5,7 @@ use borrow.Author.Rules.{rules}
 use Rattle.site.specs.Site.{located_values, position_of}
 use Rattle.site.specs.Sizes.{LocatedSized}
 use Rattle.site.specs.declared.Located.{Located}
-use Rattle.fieldbook.proofs.Decided.{refused-sized, refused-site, accepted-site}
+use Rattle.fieldbook.proofs.Decided.{refused-reduced, refused-site, accepted-site}
 use Rattle.fieldbook.proofs.shot_at.Statement.{statement}
 use Rattle.fieldbook.proofs.shot_at.Tie as tie
 
@@ -41,7 +41,7 @@ returns-2 c =
     let r = c.before.refusal.given in
     let l = c.before.before.before in
     let a = l.before.args in
-    (refused-site a.epochs a.site a.body a.options r.0.0 (answer-by l _ r.1), refused-sized a.options.limb r.0.0)
+    (refused-site a.epochs a.site a.body a.options r.0.0 (answer-by l _ r.1), refused-reduced 0)
 
 pub shot-at-spec : {M : Type 1} → statement M
 shot-at-spec = tie.close (tie.spec position-of-requires enum-known-position shot-from-requires enum-known-refusal returns returns-2)

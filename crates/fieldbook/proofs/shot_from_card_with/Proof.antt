@@ -1,13 +1,11 @@
 -- Refusal 1, or the shot with the confirmed numbers; the card is not touched.
-use mathlib.Core.Path.{◌≡◌, sym, ap, subst, ◌∙◌}
+use mathlib.Core.Path.{◌≡◌, sym, ap, ◌∙◌}
 use native.Mathlib.Omega.{arith}
 use borrow.Author.Rules.{rules}
 use Rattle.refusal.specs.RefusalNumbers.{verdict_number}
 use Rattle.card.specs.Confirmed.{ConfirmedValues}
-use Rattle.fieldbook.specs.Shot.{shot_values, shot}
-use Rattle.fieldbook.specs.Sizes.{ShotSized}
-use Rattle.fieldbook.specs.declared.Query.{Query}
-use Rattle.fieldbook.proofs.Decided.{refused-sized, refused-card, confirmed-card}
+use Rattle.fieldbook.specs.Shot.{shot}
+use Rattle.fieldbook.proofs.Decided.{refused-reduced, refused-card, confirmed-card}
 use Rattle.fieldbook.proofs.shot_from_card_with.Statement.{statement}
 use Rattle.fieldbook.proofs.shot_from_card_with.Tie as tie
 
@@ -44,8 +42,7 @@ returns c =
     let v : verdict_number f.confirmed-numbers.result.verdict ≡ 0 = ap verdict_number s.before.enum_told.given.1 in
     let e = ap (λ k. record { refusal = k; numbers = f.confirmed-numbers.result.numbers }) (sym v) ∙ f.confirmed-numbers.ensures in
     let o = c.with-card.ensures in
-    let sized = subst (λ (x : Query). ShotSized x.options.limb (shot_values s.shot-with.result)) n.query-with.ensures s.shot-with.ensures.1 in
-    rw o.0 (s.shot-with.ensures.0 ∙ ap shot n.query-with.ensures ∙ confirmed-card f.before.args.card p _ e, o.1, sized)
+    rw o.0 (s.shot-with.ensures.0 ∙ ap shot n.query-with.ensures ∙ confirmed-card f.before.args.card p _ e, o.1, s.shot-with.ensures.1)
 
 returns-2 : tie.Need-returns-2
 returns-2 c =
@@ -53,7 +50,7 @@ returns-2 c =
     let f = v.before.before.before.before.before in
     let e = sym (ap verdict_number v.verdict.given.1) ∙ ap (λ (a : ConfirmedValues). a.refusal) f.confirmed-numbers.ensures in
     let o = c.with-card2.ensures in
-    rw o.0 (refused-card f.before.args.card f.before.args.options v.verdict.given.0.0 e, o.1, refused-sized f.before.args.options.limb v.verdict.given.0.0)
+    rw o.0 (refused-card f.before.args.card f.before.args.options v.verdict.given.0.0 e, o.1, refused-reduced 1)
 
 pub shot-from-card-with-spec : {M : Type 1} → statement M
 shot-from-card-with-spec = tie.close

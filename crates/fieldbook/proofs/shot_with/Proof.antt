@@ -9,7 +9,7 @@ use Rattle.calendar.specs.Time.{instant_values, instant_of}
 use Rattle.calendar.specs.Sizes.{InstantSized}
 use Rattle.calendar.specs.declared.Instant.{Instant}
 use Rattle.fieldbook.specs.Parts.{shot_at}
-use Rattle.fieldbook.proofs.Decided.{refused-sized, refused-instant, accepted-instant}
+use Rattle.fieldbook.proofs.Decided.{refused-reduced, refused-instant, accepted-instant}
 use Rattle.fieldbook.proofs.shot_with.Statement.{statement}
 use Rattle.fieldbook.proofs.shot_with.Tie as tie
 
@@ -50,7 +50,7 @@ returns-2 : tie.Need-returns-2
 returns-2 c =
     let r = c.before.refusal.given in
     let i = c.before.before.before in
-    (refused-instant i.before.before.before.args.query r.0.0 (answer-by i _ r.1), refused-sized i.before.before.before.args.query.options.limb r.0.0)
+    (refused-instant i.before.before.before.args.query r.0.0 (answer-by i _ r.1), refused-reduced 0)
 
 pub shot-with-spec : {M : Type 1} → statement M
 shot-with-spec = tie.close (tie.spec instant-of-requires enum-known-epochs shot-at-requires enum-known-refusal returns returns-2)

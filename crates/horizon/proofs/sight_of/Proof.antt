@@ -1,4 +1,4 @@
--- Each test is one of `sight_of`, and each call gives one of the angles. What passes both tests is not near the zenith (proofs/ZenithSine.antt).
+-- Each test is one of `sight_of`, and each call gives one of the angles.
 use mathlib.Core.Path.{◌≡◌, refl, ap, ◌∙◌}
 use mathlib.Core.Bool.{true, false}
 use Prim.Native.Nat.{ℕ, ◌^◌, ◌≤◌}
@@ -14,8 +14,7 @@ use Rattle.exact.specs.Largest.{root}
 use Rattle.exact.proofs.Machine.{negated, as-signed}
 use Rattle.exact.proofs.Products.{root-le}
 use Rattle.vector_angle.specs.VectorAngle.{angle}
-use Rattle.horizon.specs.Horizon.{horizontal_square, seen, least_square, sight_of}
-use Rattle.horizon.proofs.ZenithSine.{zenith-sine}
+use Rattle.horizon.specs.Horizon.{horizontal_square, seen, sight_of}
 use Rattle.horizon.proofs.sight_of.Statement.{statement}
 use Rattle.horizon.proofs.sight_of.Tie as tie
 
@@ -41,7 +40,7 @@ returns-2 : tie.Need-returns-2
 unfolding sight_of
 returns-2 c =
     let d = c.before in
-    let e = lt-ltb (horizontal_square (start d).args.north (start d).args.east) least_square (rw (square-is d) at c.if2.true) in
+    let e = lt-ltb (horizontal_square (start d).args.north (start d).args.east) (10 ^ 14) (rw (square-is d) at c.if2.true) in
     (rw (up_is d, e), tt)
 
 root-requires : tie.Need-root-requires
@@ -100,16 +99,9 @@ unfolding sight_of seen
 returns-3 c =
     let r = c.before.before.before in
     let d = squared r in
-    let s = start d in
-    let square = horizontal_square s.args.north s.args.east in
-    let far : least_square ≤ square = rw (square-is d) at r.before.if2.false in (
-      rw (up_is d, le-ltb square least_square far, azimuth-is c.before.before, zenith-distance-is c.before, hour-angle-is c) refl,
-      record {
-        azimuth = c.before.before.angle.ensures.1;
-        zenith_distance = c.before.angle2.ensures.1;
-        hour_angle = c.angle3.ensures.1;
-        zenith_sine = rw (zenith-distance-is c.before) (zenith-sine s.args.up square s.pre.2 (up_is d) far);
-      },
+    let e = le-ltb (horizontal_square (start d).args.north (start d).args.east) (10 ^ 14) (rw (square-is d) at r.before.if2.false) in (
+      rw (up_is d, e, azimuth-is c.before.before, zenith-distance-is c.before, hour-angle-is c) refl,
+      (c.before.before.angle.ensures.1, c.before.angle2.ensures.1, c.angle3.ensures.1),
     )
 
 pub sight-of-spec : {M : Type 1} → statement M

@@ -4,11 +4,11 @@ use Prim.Native.Nat.{ℕ}
 use lib.IntN.{pos}
 use mir.Facts.{to_z-of_z}
 use borrow.Author.Rules.{rules}
+use Rattle.exact.specs.Division.{floor_div, nearest_div}
 use Rattle.exact.specs.Reduction.{short_way}
 use Rattle.epoch.specs.declared.Epoch.{Epoch}
 use Rattle.epoch.proofs.Sizes.{q-size, q-fits}
-use Rattle.sun.specs.Orbit.{aberration_at}
-use Rattle.sun.specs.Longitude.{apparent_longitude, sun_longitude}
+use Rattle.sun.specs.Longitude.{aberration, apparent_longitude}
 use Rattle.sun.specs.ShortCost.{short_cost}
 use Rattle.short_series.specs.Editions.{comparison_values, compared_at}
 use Rattle.short_series.proofs.compared_at.Statement.{statement}
@@ -38,13 +38,14 @@ short-cost-requires c κs =
     simp (to_z-of_z, q-fits h) (q-size h)
 
 -- the values by themselves
-made : (e : Epoch) (short full apart bound : ℕ) → short ≡ apparent_longitude (pos 1) (aberration_at e) e → full ≡ apparent_longitude (pos 2) (aberration_at e) e
+made : (e : Epoch) (short full apart bound : ℕ) → short ≡ apparent_longitude (pos 1) aberration e → full ≡ apparent_longitude (pos 2) aberration e
     → apart ≡ short_way short full → bound ≡ short_cost e.q
     → comparison_values (record { short = short; full = full; apart = apart; bound = bound }) ≡ compared_at e
-unfolding compared_at sun_longitude
+unfolding compared_at
 made e short full apart bound s f a b = rw (a, b, s, f) refl
 
 returns : tie.Need-returns
+unfolding aberration nearest_div floor_div
 returns c =
     let w = c.before.before in
     let l = w.before.both-longitudes.ensures in

@@ -1,10 +1,8 @@
 use mathlib.Core.Path.{◌≡◌, sym, subst, ◌∙◌}
 use native.Mathlib.Omega.{arith}
-use lib.IntN.{ℤ}
 use borrow.Author.Rules.{rules}
 use borrow.Author.Tests.{not-true, not-false}
-use Rattle.fieldbook.specs.Shot.{ShotValues, refused, shot_from_card}
-use Rattle.fieldbook.specs.Sizes.{ShotSized}
+use Rattle.fieldbook.specs.Shot.{ShotValues, ShotReduced, refused, shot_from_card}
 use Rattle.lent_card.specs.LentCard.{no_card}
 use Rattle.lent_card.proofs.ByCard.{with, without}
 use Rattle.capi.specs.Interface.{card_shot}
@@ -17,17 +15,9 @@ from-words-requires c κs = search rules
 refused-requires : tie.Need-refused-requires
 refused-requires c κs = search rules
 
--- a refusal's angles are 0, whatever the limb
-no-card-sized : (limb : ℤ) → ShotSized limb (refused no_card)
-no-card-sized limb =
-    record {
-      azimuth = omega arith;
-      zenith_distance = omega arith;
-      hour_angle = omega arith;
-      longitude = omega arith;
-      zenith_sine = λ e. absurd (omega arith);
-      radius = λ e f. absurd (omega arith);
-    }
+-- a refusal's angles are 0
+reduced : ShotReduced (refused no_card)
+reduced = (omega arith, omega arith, omega arith, omega arith)
 
 returns : tie.Need-returns
 returns c =
@@ -35,8 +25,8 @@ returns c =
     let f = t.before.before in
     let ws = f.before.args.words.now in
     let o = f.before.args.options in
-    subst (λ (v : ShotValues). (v ≡ card_shot ws o) × ShotSized o.limb v) (sym c.refused.ensures)
-    (without ws f.from-words.result f.from-words.ensures (λ c. shot_from_card c o) refused (not-true _ t.if1.true), no-card-sized o.limb)
+    subst (λ (v : ShotValues). (v ≡ card_shot ws o) × ShotReduced v) (sym c.refused.ensures)
+    (without ws f.from-words.result f.from-words.ensures (λ c. shot_from_card c o) refused (not-true _ t.if1.true), reduced)
 
 shot-from-card-requires : tie.Need-shot-from-card-requires
 shot-from-card-requires c κs = search rules
@@ -52,7 +42,7 @@ returns-2 c =
     let ws = f.before.args.words.now in
     let o = f.before.args.options in
     let is = s.shot-from-card.ensures in
-    subst (λ (v : ShotValues). (v ≡ card_shot ws o) × ShotSized o.limb v) (sym c.answer-of.ensures)
+    subst (λ (v : ShotValues). (v ≡ card_shot ws o) × ShotReduced v) (sym c.answer-of.ensures)
     (is.0 ∙ with ws f.from-words.result f.from-words.ensures (λ c. shot_from_card c o) refused (not-false _ e.if1.false), is.2)
 
 pub fieldbook-card-shot-spec : {M : Type 1} → statement M

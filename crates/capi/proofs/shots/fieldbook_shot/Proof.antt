@@ -2,8 +2,7 @@
 use mathlib.Core.Path.{◌≡◌, sym, subst}
 use mir.Facts.{to_z-of_z}
 use borrow.Author.Rules.{rules}
-use Rattle.fieldbook.specs.Shot.{ShotValues, query, shot_values, shot}
-use Rattle.fieldbook.specs.Sizes.{ShotSized}
+use Rattle.fieldbook.specs.Shot.{ShotValues, query, shot_values, ShotReduced, shot}
 use Rattle.fieldbook.specs.declared.Query.{Query}
 use Rattle.capi.specs.Interface.{numbers}
 use Rattle.capi.proofs.shots.fieldbook_shot.Statement.{statement}
@@ -17,7 +16,7 @@ module _ (c : tie.After-shot) where
       (numbers a.year a.month a.day a.hour a.minute a.millisecond a.dut1 a.latitude a.longitude a.body a.delta-t)
       a.options
 
-  is-shot : (shot_values c.shot.result ≡ shot x) × ShotSized x.options.limb (shot_values c.shot.result)
+  is-shot : (shot_values c.shot.result ≡ shot x) × ShotReduced (shot_values c.shot.result)
   is-shot =
       let f = c.before.before.before.ranges in
       let n = c.before.query-with.ensures in
@@ -39,7 +38,7 @@ answer-of-requires c κs = search rules
 returns : tie.Need-returns
 returns c =
     let d = c.before in
-    subst (λ (v : ShotValues). (v ≡ shot (x d)) × ShotSized (x d).options.limb v) (sym c.answer-of.ensures) (is-shot d)
+    subst (λ (v : ShotValues). (v ≡ shot (x d)) × ShotReduced v) (sym c.answer-of.ensures) (is-shot d)
 
 pub fieldbook-shot-spec : {M : Type 1} → statement M
 fieldbook-shot-spec = tie.close (tie.spec slice-aggregate-query-with query-with-requires shot-requires answer-of-requires returns)

@@ -1,11 +1,23 @@
-//! The outside sessions are older than requests 5 and 9: with the table sine and with the Sun's
-//! aberration as they were before (the features `five_minutes` and `steady_aberration`) every line
-//! must agree whole.
+//! The outside vectors that are older than request 5: their shots are of the table with a step of
+//! five minutes, with which (the feature `five_minutes`) every line must agree whole.
 
-#![cfg(all(feature = "five_minutes", feature = "steady_aberration"))]
+#![cfg(feature = "five_minutes")]
 
+mod vector_lines;
+
+use second::question::Pointing;
+use second::replay;
 use second::session;
 use second::sine::Sine;
+use vector_lines::agree;
+
+#[test]
+fn pointing_vectors() {
+    let sine = Sine::new();
+    agree(include_str!("data/pointing.txt"), 200, |line| {
+        replay::question_line::<Pointing>(&sine, line)
+    });
+}
 
 /// One session of the file: input lines and answers.
 fn compare_session(sine: &Sine, text: &str) {
