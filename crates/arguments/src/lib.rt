@@ -1,4 +1,6 @@
 // The time arguments of document 01, "Time", and document 02, request 7: angles that grow nearly evenly with time, each by three coefficients.
+#![tactic(auto)]
+
 mod tables;
 
 ghost use Rattle.std.specs.Prelude.{◌≡◌, map, ◌<◌, length};

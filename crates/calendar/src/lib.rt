@@ -1,5 +1,7 @@
 // The calendar: Gregorian dates, and the two epochs of an instant. Document 01, "The card" (fields 1 to 7) and "Time"; document 02,
 // request 3 (field 11).
+#![tactic(auto)]
+
 ghost use Rattle.std.specs.Prelude.{◌≡◌, true, ◌≤◌, ◌<◌, nat_abs, take};
 ghost use Rattle.epoch.specs.Sizes.{InSpan};
 ghost use Rattle.calendar.specs.Date.{leap_year, months, total, month_length, is_date, year_days, day_count};
@@ -16,7 +18,7 @@ const LENGTHS: [u8; 12] = [31, 28, 31, 30, 31, 30, 31, 31, 30, 31, 30, 31];
 const DAYS_BEFORE: [u16; 12] = [0, 31, 59, 90, 120, 151, 181, 212, 243, 273, 304, 334];
 
 // Fields 1 to 7 and 11 of the card: the date, the time of day in UTC, and DUT1 and ΔT in milliseconds. DUT1 is UT1 − UTC, ΔT is ET − UT1.
-#[derive(Drop)]
+#[derive(Clone, Copy)]
 pub struct CivilTime {
     pub year: i64,
     pub month: i64,
@@ -29,14 +31,14 @@ pub struct CivilTime {
 }
 
 // The two epochs of an accepted instant: sidereal time goes by universal time, all else by ephemeris time, which is ΔT ahead.
-#[derive(Drop)]
+#[derive(Clone, Copy)]
 pub struct Epochs {
     pub universal: Epoch,
     pub ephemeris: Epoch,
 }
 
 // What eight numbers are answered with: their epochs, or why they name no instant, 2, 3, 4 or 17.
-#[derive(Drop)]
+#[derive(Clone, Copy)]
 pub enum Instant {
     Accepted(Epochs),
     Refused(Refusal),

@@ -8,7 +8,7 @@ use spread::Choice;
 // What a choice answers, laid out as in C: the refusal's number, 0 for none, which list has the smaller spread, 1 or 2, and how many
 // results it has. With a refusal it is list 1 and none.
 #[repr(C)]
-#[derive(Drop)]
+#[derive(Clone, Copy)]
 pub struct ChoiceAnswer {
     pub refusal: u64,
     pub list: u64,

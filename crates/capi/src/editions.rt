@@ -10,7 +10,7 @@ use short_series::Answer;
 // apparent longitude by the short edition and by the full one, how far they are apart the short way round, and what bounds that. A
 // refusal's are 0.
 #[repr(C)]
-#[derive(Drop)]
+#[derive(Clone, Copy)]
 pub struct EditionsAnswer {
     pub refusal: u64,
     pub short_edition: u64,

@@ -10,7 +10,7 @@ use pointing::Mark;
 // What a pointing answers, laid out as in C: the refusal's number, 0 for none, and the mark's azimuth, in units of 0.0001 second of arc,
 // 0 with a refusal.
 #[repr(C)]
-#[derive(Drop)]
+#[derive(Clone, Copy)]
 pub struct PointingAnswer {
     pub refusal: u64,
     pub mark: u64,

@@ -16,7 +16,7 @@ const WORDS: usize = 5;
 // What a shot answers, laid out as in C: the refusal's number, 0 for none, and azimuth, zenith distance, hour angle and s, in units of
 // 0.0001 second of arc. A refusal's angles are 0.
 #[repr(C)]
-#[derive(Drop)]
+#[derive(Clone, Copy)]
 pub struct ShotAnswer {
     pub refusal: u64,
     pub azimuth: u64,

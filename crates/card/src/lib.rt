@@ -1,5 +1,7 @@
 // The card of spoken fields. Document 01, "The card"; document 02, requests 3 (field 11), 4 (the start) and 6 (undo). A number counts only after
 // it was heard, read out and confirmed. The calls take a card by value and answer the card afterwards; a refused call answers the card as it was.
+#![tactic(auto)]
+
 ghost use Rattle.std.specs.Prelude.{◌≡◌, true, ◌<◌, ◌^◌, nat_abs};
 ghost use Rattle.refusal.specs.RefusalNumbers.{verdict_number};
 ghost use Rattle.card.specs.Fields.{is_held, number_in, field_count, is_field, slot_index, field_at, field_of, put, keeping, card_of_parts, fresh_card, fresh_with_dut1_assumed_zero};
@@ -19,7 +21,7 @@ const DUT1: usize = 6;
 pub const LARGEST_HEARD: i64 = 9_999_999;
 
 // The state of a field. All but an empty one hold a number.
-#[derive(Drop)]
+#[derive(Clone, Copy)]
 pub enum Field {
     Empty,
     Heard(i64),
@@ -27,13 +29,13 @@ pub enum Field {
     Confirmed(i64),
 }
 
-#[derive(Drop)]
+#[derive(Clone, Copy)]
 pub struct Slot {
     pub field: Field,
 }
 
 // What an undo puts back: the latest accepted hearing was for the field of this number, and this is what the field was before it.
-#[derive(Drop)]
+#[derive(Clone, Copy)]
 pub enum Latest {
     NothingToUndo,
     Before(i64, Field),
@@ -41,21 +43,21 @@ pub enum Latest {
 
 // A card is made by one of the two starts and changed by the calls alone: its fields are not public, so that no caller writes a confirmed
 // number into it, or into what an undo puts back. (`card_of_parts` is for crate `card_words` alone.)
-#[derive(Drop)]
+#[derive(Clone, Copy)]
 pub struct Card {
     slots: [Slot; FIELDS],
     latest: Latest,
 }
 
 // What hearing, confirming and undoing answer.
-#[derive(Drop)]
+#[derive(Clone, Copy)]
 pub struct CardAnswer {
     pub verdict: Verdict,
     pub card: Card,
 }
 
 // What became of a reading.
-#[derive(Drop)]
+#[derive(Clone, Copy)]
 pub enum Reading {
     // The text stands in the buffer, and is so many bytes long.
     Written(usize),
@@ -63,7 +65,7 @@ pub enum Reading {
 }
 
 // What reading answers.
-#[derive(Drop)]
+#[derive(Clone, Copy)]
 pub struct ReadAnswer {
     pub reading: Reading,
     pub card: Card,
@@ -71,7 +73,7 @@ pub struct ReadAnswer {
 
 // What a shot from a card works on: where every field is confirmed, the numbers in the order of the fields, in the units of document 01′s
 // table; else refusal 1, and zeros.
-#[derive(Drop)]
+#[derive(Clone, Copy)]
 pub struct ConfirmedNumbers {
     pub verdict: Verdict,
     pub numbers: [i64; FIELDS],

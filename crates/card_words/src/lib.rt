@@ -1,6 +1,8 @@
 // A card in lent words of 64 bits, for callers who keep it in their own memory. Of each field, in their order, the number of its state, 0 to 3
 // for empty, heard, read and confirmed, and the number that it holds, 0 where it is empty; then what an undo puts back: the field's number,
 // 0 where there is nothing to undo, and its state and number as those of a field.
+#![tactic(auto)]
+
 ghost use Rattle.std.specs.Prelude.{◌≡◌, true, ◌+◌, ◌≤◌, length};
 ghost use Rattle.std.proofs.lemmas.List.Edits.{sets};
 ghost use Rattle.card_words.specs.Words.{word_count, state_number, field_words, latest_field, latest_before, card_words, is_field_words, field_from, is_latest_words, latest_from, whole_card, no_card, with_fields, restored_from};
@@ -14,7 +16,7 @@ pub const WORDS: usize = 25;
 const LATEST: usize = 22;
 
 // What stands in lent words: whether they are a card, and which. Where they are none it is a fresh one, which nobody uses.
-#[derive(Drop)]
+#[derive(Clone, Copy)]
 pub struct Restored {
     pub whole: bool,
     pub card: Card,

@@ -1,10 +1,12 @@
 // The text of a number as it is read out, and the writing of it into a buffer. Document 01, "The card".
+#![tactic(auto)]
+
 ghost use Rattle.std.specs.Prelude.{◌≡◌, ◌++◌, ◌+◌, ◌%◌, ◌≤◌, length, drop};
 ghost use Rattle.digits.specs.Text.{digits, text};
 ghost use Rattle.digits.specs.Writing.{write_at, buffer_with};
 
 // What writing at a place of a buffer answers.
-#[derive(Drop)]
+#[derive(Clone, Copy)]
 pub enum Written {
     // The text stands in the buffer, and is so many bytes long.
     Bytes(usize),

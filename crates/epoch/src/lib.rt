@@ -1,10 +1,12 @@
 // An instant as the theory takes it. Document 01, "Time".
+#![tactic(auto)]
+
 ghost use Rattle.std.specs.Prelude.{◌≡◌};
 ghost use Rattle.epoch.specs.Epoch.{epoch_of};
 ghost use Rattle.epoch.specs.Sizes.{Span, InSpan};
 
 // 01′s N, in milliseconds since 1900 January 0.5, and q, the millionths of a Julian century in it.
-#[derive(Drop)]
+#[derive(Clone, Copy)]
 pub struct Epoch {
     pub n: i64,
     pub q: i64,

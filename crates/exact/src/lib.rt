@@ -1,5 +1,7 @@
 // Exact arithmetic on whole numbers: floor and nearest division, products wider than 64 bits, reduction to a turn, the integer
 // square root. Document 01, "Units and rounding".
+#![tactic(auto)]
+
 ghost use Rattle.std.specs.Prelude.{◌≡◌, ◌+◌, ◌*◌, ◌/◌, ◌<◌, ◌≤◌, ◌^◌, pos, nat_abs, ◌+ℤ◌, ◌*ℤ◌, ◌<ℤ◌, ◌≤ℤ◌};
 ghost use Rattle.exact.specs.Division.{floor_div, nearest_div};
 ghost use Rattle.exact.specs.Reduction.{turn, is_reduced, reduced, apart, short_way};

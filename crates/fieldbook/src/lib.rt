@@ -1,5 +1,7 @@
 // The shot: where the Sun or Polaris stands for eleven numbers, or for a card. Document 01, "Refusal numbers", "The horizon"; document 02,
 // requests 3 (field 11) and 7 (the edition).
+#![tactic(auto)]
+
 ghost use Rattle.std.specs.Prelude.{◌≡◌, ◌<◌, ◌≤◌, length};
 ghost use Rattle.exact.specs.Reduction.{turn};
 ghost use Rattle.sine_table.specs.Table.{entries};
@@ -21,7 +23,7 @@ use sine_table::SineTable;
 use site::{Located, Position, Site};
 
 // The numbers of a shot: fields 1 to 7 and 11 of the card, 8 and 9, and 10.
-#[derive(Drop)]
+#[derive(Clone, Copy)]
 pub struct Numbers {
     pub time: CivilTime,
     pub site: Site,
@@ -30,7 +32,7 @@ pub struct Numbers {
 
 // How a shot is worked, any numbers: the edition of the Sun's series, 1 short or 2 full. Laid out as in C.
 #[repr(C)]
-#[derive(Drop)]
+#[derive(Clone, Copy)]
 pub struct Options {
     pub edition: i64,
 }
@@ -42,7 +44,7 @@ pub const DEFAULTS: Options = Options { edition: 1 };
 pub const OPTIONS: usize = 1;
 
 // What a shot is asked with.
-#[derive(Drop)]
+#[derive(Clone, Copy)]
 pub struct Query {
     pub numbers: Numbers,
     pub options: Options,
@@ -50,7 +52,7 @@ pub struct Query {
 
 // An answered shot, in units of 0.0001 second of arc: the azimuth from north clockwise, the zenith distance, the hour angle, and the
 // Sun's apparent longitude s, 0 for Polaris.
-#[derive(Drop)]
+#[derive(Clone, Copy)]
 pub struct ShotAngles {
     pub azimuth: u64,
     pub zenith_distance: u64,
@@ -59,21 +61,21 @@ pub struct ShotAngles {
 }
 
 // What a shot answers.
-#[derive(Drop)]
+#[derive(Clone, Copy)]
 pub enum Outcome {
     Answered(ShotAngles),
     Refused(Refusal),
 }
 
 // What a shot from a card answers, with the card.
-#[derive(Drop)]
+#[derive(Clone, Copy)]
 pub struct CardShot {
     pub outcome: Outcome,
     pub card: Card,
 }
 
 // What both bodies share at an accepted instant: its epochs, the arguments, the frame of the date and Greenwich sidereal time.
-#[derive(Drop)]
+#[derive(Clone, Copy)]
 struct Astrometry {
     epochs: Epochs,
     arguments: [i64; arguments::COUNT],

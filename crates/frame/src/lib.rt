@@ -1,4 +1,6 @@
 // The frame of the date: nutation, the obliquity of the ecliptic ("The Sun" in document 01), Greenwich sidereal time ("Time").
+#![tactic(auto)]
+
 mod tables;
 
 ghost use Rattle.std.specs.Prelude.{◌≡◌, ◌≤◌, ◌<◌, ◌^◌, nat_abs};
@@ -15,7 +17,7 @@ use sine_table::SineTable;
 
 // The orientation of the equator at an epoch, in units: ε₀, the mean obliquity; Δψ, the nutation in longitude; ε, the true obliquity, which is
 // ε₀ with Δε, the nutation in obliquity.
-#[derive(Drop)]
+#[derive(Clone, Copy)]
 pub struct Frame {
     pub epsilon0: i64,
     pub dpsi: i64,

@@ -1,5 +1,7 @@
 // A direction at an observer's horizon: document 01, "The horizon". Latitude and longitude are in units of 0.0001 second of arc, north and east
 // positive.
+#![tactic(auto)]
+
 ghost use Rattle.std.specs.Prelude.{◌≡◌, ◌+◌, ◌*◌, ◌≤◌, ◌<◌, ◌^◌, nat_abs, pos};
 ghost use Rattle.exact.specs.Reduction.{turn};
 ghost use Rattle.sine_table.specs.Table.{entries};
@@ -19,7 +21,7 @@ const LEAST_SQUARE: u64 = 100_000_000_000_000;
 
 // Where the body stands, in units of 0.0001 second of arc: the azimuth from north clockwise, the zenith distance, and the hour angle,
 // positive to the west.
-#[derive(Drop)]
+#[derive(Clone, Copy)]
 pub struct SightAngles {
     pub azimuth: u64,
     pub zenith_distance: u64,
@@ -27,7 +29,7 @@ pub struct SightAngles {
 }
 
 // What a sight of the body gives: its angles, or refusal 7 or 8.
-#[derive(Drop)]
+#[derive(Clone, Copy)]
 pub enum Sighting {
     Seen(SightAngles),
     Refused(Refusal),

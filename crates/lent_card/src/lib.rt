@@ -1,5 +1,7 @@
 // The calls on a card in lent words: the card that the words are is called, and its words come in their place. Document 01, "The card"; document
 // 02, request 6. The words are tested before each call, and where they are no card nothing is written.
+#![tactic(auto)]
+
 ghost use Rattle.std.specs.Prelude.{◌≡◌, length};
 ghost use Rattle.refusal.specs.RefusalNumbers.{verdict_number};
 ghost use Rattle.card.specs.Calls.{card_values, read_values};
@@ -15,14 +17,14 @@ pub const NO_CARD: u64 = 100;
 
 // What reading answers, laid out as in C: the refusal's number, 0 for none, and how many bytes the text is long, 0 with a refusal.
 #[repr(C)]
-#[derive(Drop)]
+#[derive(Clone, Copy)]
 pub struct ReadAnswer {
     pub refusal: u64,
     pub length: u64,
 }
 
 // A call that is answered by a refusal's number alone.
-#[derive(Drop)]
+#[derive(Clone, Copy)]
 pub enum Call {
     Hear(i64, i64),
     Confirm(i64),

@@ -1,4 +1,6 @@
 // The bytes of a line: where it ends, its numbers, and the numbers and words of an answer.
+#![tactic(auto)]
+
 ghost use Rattle.std.specs.Prelude.{◌≡◌, [], ◌+◌, ◌^◌, ◌≤◌, length};
 ghost use Rattle.lines.specs.Numerals.{digits_of, numeral_of, row_length, numbers_of, listed};
 ghost use Rattle.lines.specs.Sizes.{Below};
@@ -11,21 +13,21 @@ pub const ROW: usize = 13;
 const DIGITS: usize = 20;
 
 // What digits make.
-#[derive(Drop)]
+#[derive(Clone, Copy)]
 pub enum Digits {
     Value(u64),
     Other,
 }
 
 // What a word is.
-#[derive(Drop)]
+#[derive(Clone, Copy)]
 pub enum Numeral {
     Number(i64),
     NoNumber,
 }
 
 // The numbers of a line, the first `count` of the array. A line that is not numbers with one space between has none.
-#[derive(Drop)]
+#[derive(Clone, Copy)]
 pub struct Row {
     pub numbers: [i64; ROW],
     pub count: usize,

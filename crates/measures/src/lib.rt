@@ -1,5 +1,7 @@
 // Runs of sines and of angles of a vector with the table lent, for bench/: how many instructions one takes is the difference of two
 // runs. What a run answers depends on all that is found in it, so that the compiler can leave out nothing.
+#![tactic(auto)]
+
 ghost use Rattle.std.specs.Prelude.{◌≡◌, ◌≤◌, ◌<◌, nat_abs};
 ghost use Rattle.exact.specs.Reduction.{turn};
 ghost use Rattle.sine_table.specs.Table.{R, entries};

@@ -1,4 +1,6 @@
 // The pointing: the azimuth of a reference mark, from a shot of a body and the horizontal angle between the two. Document 02, request 1.
+#![tactic(auto)]
+
 ghost use Rattle.std.specs.Prelude.{◌≡◌};
 ghost use Rattle.sine_table.specs.Table.{entries};
 ghost use Rattle.fieldbook.specs.Shot.{shot_values, ShotReduced};
@@ -10,14 +12,14 @@ use refusal::Refusal;
 use sine_table::SineTable;
 
 // What a pointing answers: the azimuth of the mark, in units of 0.0001 second of arc from north clockwise.
-#[derive(Drop)]
+#[derive(Clone, Copy)]
 pub enum Mark {
     Azimuth(u64),
     Refused(Refusal),
 }
 
 // What a pointing from a card answers, with the card.
-#[derive(Drop)]
+#[derive(Clone, Copy)]
 pub struct CardPointing {
     pub mark: Mark,
     pub card: Card,

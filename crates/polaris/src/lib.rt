@@ -1,5 +1,7 @@
 // The direction of Polaris: document 01, "Polaris". The position in the FK4 with proper motion, precession, nutation and aberration. Angles are
 // in units of 0.0001″; ε₀ is the mean obliquity, Δψ the nutation in longitude, ε the true obliquity.
+#![tactic(auto)]
+
 mod tables;
 
 ghost use Rattle.std.specs.Prelude.{◌≡◌, ◌+◌, ◌*◌, ◌≤◌, ◌<◌, ◌^◌, nat_abs, neg_ℤ};
@@ -29,7 +31,7 @@ const TROPICAL_CENTURY: i64 = 3_155_692_599_360;
 const ABERRATION_PARTS: i64 = 99_367;
 
 // The angles that change with p, in units: right ascension and declination with their proper motion, and precession's ζ, θ and z.
-#[derive(Drop)]
+#[derive(Clone, Copy)]
 pub struct Elements {
     pub alpha: i64,
     pub delta: i64,

@@ -1,9 +1,11 @@
 // The refusals of the whole book: document 01, "Refusal numbers", and those that document 02 adds.
+#![tactic(auto)]
+
 ghost use Rattle.std.specs.Prelude.{◌≡◌, ◌≤◌};
 ghost use Rattle.refusal.specs.RefusalNumbers.{number_of, largest_number};
 
 // Why a call is refused, in the order of the numbers: 1 to 14 of document 01, 15 to 19 of document 02.
-#[derive(Drop)]
+#[derive(Clone, Copy)]
 pub enum Refusal {
     // 1: a shot from a card on which some field is not confirmed.
     NotConfirmed,
@@ -46,7 +48,7 @@ pub enum Refusal {
 }
 
 // What a call that gives nothing but a refusal answers.
-#[derive(Drop)]
+#[derive(Clone, Copy)]
 pub enum Verdict {
     Accepted,
     Refused(Refusal),

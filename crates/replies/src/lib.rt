@@ -1,4 +1,6 @@
 // The line protocols of the programs: what a line asks, and what it is answered.
+#![tactic(auto)]
+
 ghost use Rattle.std.specs.Prelude.{◌≡◌, suc, ◌+◌, ◌≤◌, length};
 ghost use Rattle.refusal.specs.RefusalNumbers.{number_of, verdict_number};
 ghost use Rattle.sine_table.specs.Table.{entries};
@@ -30,7 +32,7 @@ const BATCH_DIGITS: usize = 18;
 const LONGEST: usize = 106;
 
 // Which program's lines.
-#[derive(Drop)]
+#[derive(Clone, Copy)]
 pub enum Protocol {
     // A card of fields: `H field number`, `R field`, `C field`, `S`.
     Session,
@@ -39,7 +41,7 @@ pub enum Protocol {
 }
 
 // What a line of a batch asks.
-#[derive(Drop)]
+#[derive(Clone, Copy)]
 pub enum Question {
     // A shot: a number for each field, in the order of the card.
     Shot,
@@ -51,7 +53,7 @@ pub enum Question {
 }
 
 // What a line of the session asks.
-#[derive(Drop)]
+#[derive(Clone, Copy)]
 pub enum Command {
     Hear(i64, i64),
     Read(i64),
@@ -61,7 +63,7 @@ pub enum Command {
 }
 
 // The card after a line, and where its answer ends in the buffer.
-#[derive(Drop)]
+#[derive(Clone, Copy)]
 pub struct Reply {
     pub card: Card,
     pub end: usize,

@@ -1,5 +1,7 @@
 // Directions and their rotations: document 01, "Polaris". A direction has three components in units of 1 / 1,000,000,000; a rotation has
 // three rows. Both go by value.
+#![tactic(auto)]
+
 ghost use Rattle.std.specs.Prelude.{◌≡◌, ◌+◌, ◌≤◌, ◌^◌, nat_abs, neg_ℤ};
 ghost use Rattle.sine_table.specs.Table.{R, entries};
 ghost use Rattle.rotation.specs.Rotation.{dot, rotated, sin_of, cos_of, rotation1, rotation2, rotation3};
@@ -16,7 +18,7 @@ pub type Direction = [i64; 3];
 pub type Matrix = [[i64; 3]; 3];
 
 // The cosine and the sine of an angle, and the sine with its sign changed.
-#[derive(Drop)]
+#[derive(Clone, Copy)]
 struct Sines {
     cos: i64,
     sin: i64,

@@ -1,4 +1,6 @@
 // Floored polynomials: what changes slowly with time, in whole units. Document 01, "Time", "The Sun" and "Polaris".
+#![tactic(auto)]
+
 ghost use Rattle.std.specs.Prelude.{◌≡◌, ◌≤◌, nat_abs};
 ghost use Rattle.secular.specs.FlooredPolynomial.{value};
 ghost use Rattle.secular.specs.Sizes.{Sized, most_millionths, most};
@@ -7,7 +9,7 @@ ghost use Rattle.secular.specs.Sizes.{Sized, most_millionths, most};
 pub const SQUARE: i64 = 1_000_000_000_000;
 
 // The coefficients: c0 as it is, c1 for a million of x, c2 for a million squared where the divisor is 10^12.
-#[derive(Drop)]
+#[derive(Clone, Copy)]
 pub struct Polynomial {
     pub c0: i64,
     pub c1: i64,

@@ -4,6 +4,8 @@
 // that share their arguments are a group, itself a row of four: the indices of the arguments, and how many rows it has; the rows of all
 // groups stand one after the other. A term whose amplitude varies is a row of six: c0, c1, c2 and the phase in units, and the multiple
 // and the index of its one argument. A cosine is a term whose phase is a quadrant more.
+#![tactic(auto)]
+
 ghost use Rattle.std.specs.Prelude.{◌≡◌, map, ℕ, ◌*◌, ◌≤◌, ◌<◌, ◌^◌, ℤ, nat_abs, ◌*ℤ◌, length};
 ghost use Rattle.exact.specs.Division.{nearest_div};
 ghost use Rattle.exact.specs.Reduction.{turn, reduced};

@@ -1,5 +1,7 @@
 // What the short edition of the Sun's series costs, for teachers: the Sun's apparent longitude at an instant by both editions, and how far
 // they can be apart. Document 02, request 8.
+#![tactic(auto)]
+
 ghost use Rattle.std.specs.Prelude.{◌≡◌, ◌≤◌, length};
 ghost use Rattle.sine_table.specs.Table.{entries};
 ghost use Rattle.epoch.specs.Sizes.{InSpan};
@@ -15,7 +17,7 @@ pub const NUMBERS: usize = 8;
 
 // An instant by both editions, in units of 0.0001 second of arc: the apparent longitude by the short one and by the full one, how far these
 // are apart the short way round, and what bounds that, the amplitudes that the short one leaves out.
-#[derive(Drop)]
+#[derive(Clone, Copy)]
 pub struct Comparison {
     pub short: u64,
     pub full: u64,
@@ -24,7 +26,7 @@ pub struct Comparison {
 }
 
 // What eight numbers are answered with: the comparison, or why they name no instant, 2, 3, 4 or 17.
-#[derive(Drop)]
+#[derive(Clone, Copy)]
 pub enum Answer {
     Compared(Comparison),
     Refused(Refusal),

@@ -1,6 +1,8 @@
 // The table sine and cosine: document 01, "The sine".
 //
 // An angle is reduced, in units of 0.0001 second of arc; a sine is scaled to 1,000,000,000. The table is lent to the functions that read it.
+#![tactic(auto)]
+
 ghost use Rattle.std.specs.Prelude.{◌≡◌, ◌*◌, ◌≤◌, ◌<◌, nat_abs};
 ghost use Rattle.exact.specs.Reduction.{Q, turn};
 ghost use Rattle.sine_table.specs.Step.{step};

@@ -1,4 +1,6 @@
 // The table of the sine: document 01, "The sine". Each call of `table` builds it anew: name it once, at the top, and lend it.
+#![tactic(auto)]
+
 mod entries;
 
 ghost use Rattle.std.specs.Prelude.{◌≡◌, ◌≤◌, ◌<◌};

@@ -1,4 +1,6 @@
 // Where the observer stands: document 01, "The card" (fields 8 and 9), "The horizon" and refusal 5. North and east are positive.
+#![tactic(auto)]
+
 ghost use Rattle.std.specs.Prelude.{◌≡◌};
 ghost use Rattle.site.specs.Site.{is_site, position_of, located_values};
 ghost use Rattle.site.specs.Sizes.{LocatedSized};
@@ -9,21 +11,21 @@ use refusal::Refusal;
 const TENTH: i64 = 1_000;
 
 // Fields 8 and 9 of the card, in 0.1 second of arc.
-#[derive(Drop)]
+#[derive(Clone, Copy)]
 pub struct Site {
     pub latitude: i64,
     pub longitude: i64,
 }
 
 // The same two in units of 0.0001 second of arc, as the horizon takes them.
-#[derive(Drop)]
+#[derive(Clone, Copy)]
 pub struct Position {
     pub latitude: i64,
     pub longitude: i64,
 }
 
 // What two numbers are answered with: the position, or refusal 5.
-#[derive(Drop)]
+#[derive(Clone, Copy)]
 pub enum Located {
     At(Position),
     Refused(Refusal),

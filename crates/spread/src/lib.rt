@@ -1,4 +1,6 @@
 // Of two lists of results, the one of smaller spread. Document 02, request 1. Results are angles in units of 0.0001 second of arc.
+#![tactic(auto)]
+
 ghost use Rattle.std.specs.Prelude.{◌≡◌, ◌<◌, length};
 ghost use Rattle.spread.specs.Spread.{larger, smaller, is_list, choice_values, choice, HandsBack};
 ghost use Rattle.spread.specs.Parts.{spread_of};
@@ -9,7 +11,7 @@ use refusal::Refusal;
 const MOST: usize = 64;
 
 // Which list is handed back, whole, or why neither is.
-#[derive(Drop)]
+#[derive(Clone, Copy)]
 pub enum Choice {
     First,
     Second,
@@ -17,7 +19,7 @@ pub enum Choice {
 }
 
 // The spread of a list, where each of its results is an angle.
-#[derive(Drop)]
+#[derive(Clone, Copy)]
 enum Extent {
     Spread(i64),
     NoAngle,

@@ -1,4 +1,6 @@
 // A program over lines: its input comes in chunks of any length, and each whole line is answered at once.
+#![tactic(auto)]
+
 ghost use Rattle.std.specs.Prelude.{◌≡◌, [], ◌++◌, ◌+◌, ◌*◌, ◌≤◌, length, take};
 ghost use Rattle.sine_table.specs.Table.{entries};
 ghost use Rattle.card.specs.Fields.{fresh_card};
@@ -22,21 +24,21 @@ const CHUNK: usize = 4_096;
 const OUTPUT: usize = 438_272;
 
 // The unfinished line: the first `len` bytes of the array.
-#[derive(Drop)]
+#[derive(Clone, Copy)]
 pub struct Kept {
     pub bytes: [u8; KEPT],
     pub len: usize,
 }
 
 // What a program holds between two chunks.
-#[derive(Drop)]
+#[derive(Clone, Copy)]
 pub struct State {
     pub card: Card,
     pub kept: Kept,
 }
 
 // The state after a chunk, and where its output ends in the buffer.
-#[derive(Drop)]
+#[derive(Clone, Copy)]
 pub struct Fed {
     pub state: State,
     pub end: usize,
@@ -254,7 +256,7 @@ pub fn finish(t: &SineTable, protocol: Protocol, state: State, out: &mut [u8]) -
 }
 
 // A round of the loop that reads: how many bytes came, and what they made.
-#[derive(Drop)]
+#[derive(Clone, Copy)]
 struct Round {
     came: usize,
     fed: Fed,

@@ -1,5 +1,7 @@
 // The Sun by Newcomb's series: the equation of the centre, the apparent longitude and the direction; what its short edition leaves out.
 // Document 01, "The Sun"; document 02, requests 7 and 8.
+#![tactic(auto)]
+
 mod tables;
 
 ghost use Rattle.std.specs.Prelude.{◌≡◌, ◌+◌, ◌*◌, ◌≤◌, ◌<◌, ◌^◌, ℤ, pos, nat_abs, ◌+ℤ◌, ◌-ℤ◌};
@@ -25,7 +27,7 @@ use sine_table::SineTable;
 pub use tables::ABERRATION;
 
 // The apparent longitude by either edition, reduced, in units.
-#[derive(Drop)]
+#[derive(Clone, Copy)]
 pub struct Longitudes {
     pub short: u64,
     pub full: u64,

@@ -1,6 +1,8 @@
 // The angle of a vector: document 01, "The sine"; document 02, request 2.
 //
 // Components are numbers of at most 2^34, an angle is in units of 0.0001 second of arc. The sine's table is lent.
+#![tactic(auto)]
+
 ghost use Rattle.std.specs.Prelude.{◌≡◌, ◌+◌, ◌*◌, ◌/◌, ◌≤◌, ◌<◌, ◌^◌, nat_abs};
 ghost use Rattle.exact.specs.Reduction.{Q, turn};
 ghost use Rattle.exact.specs.Largest.{Among};
@@ -18,7 +20,7 @@ const LARGE: u64 = 8_796_093_022_208;
 const GRAIN: u64 = 16_384;
 
 // The sine and the cosine at the start of a step, and how far the one rises and the other falls to its end.
-#[derive(Drop)]
+#[derive(Clone, Copy)]
 struct Step {
     sine: u64,
     cosine: u64,

@@ -78,7 +78,7 @@ fn larger(a: u64, b: u64) -> u64
 }
 
 // A position, and whether the library takes its latitude and longitude; where it does not, the position is not used.
-#[derive(Drop)]
+#[derive(Clone, Copy)]
 pub struct KnownPosition {
     pub known: bool,
     pub position: Position,

@@ -27,7 +27,7 @@ use site::{Position, Site};
 
 // An accepted instant: its epochs, the frame of the date, Greenwich sidereal time, the angle g of the centre terms alone, and the Sun's apparent
 // longitude s.
-#[derive(Drop)]
+#[derive(Clone, Copy)]
 pub struct Quantities {
     pub epochs: Epochs,
     pub frame: Frame,

@@ -1,6 +1,8 @@
 // Answers the outside vectors: a line of standard input says by its first word what it asks, and its answer is a line of standard output. Each
 // answer begins with the refusal's number, 0 where there is none; a line that is not of its form is answered 14. What is read and written is
 // compared by a run, not proved; proved is that each call is made as its contract asks, and that the program ends.
+#![tactic(auto)]
+
 mod angles;
 mod calls;
 mod instant;

@@ -3,7 +3,7 @@ ghost use Rattle.std.specs.Prelude.{◌/◌, ◌<◌, ◌≤◌, length};
 
 // What a line asks by its first word, where it has as many numbers as the word takes: of the card, of angles, or of the card's fields from the
 // first on, perhaps with an edition of the Sun's series behind them.
-#[derive(Drop)]
+#[derive(Clone, Copy)]
 pub enum Word {
     Fresh,
     Old,

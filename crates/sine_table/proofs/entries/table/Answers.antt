@@ -3,12 +3,8 @@ use mathlib.Core.Path.{refl}
 use Rattle.exact.specs.Division.{nearest_div_ℕ}
 use Rattle.sine_table.specs.SinePolynomial.{poly_num, poly_den, term, cofactor, arc, whole}
 use Rattle.sine_table.specs.Table.{entry_by, entries_from, entries}
-use Rattle.sine_table.proofs.entries.table.Statement.{statement}
-use Rattle.sine_table.proofs.entries.table.Tie as tie
+use Rattle.sine_table.proofs.entries.table.Goals as goal
 
-returns : tie.Need-returns
+pub returns : goal.returns
 unfolding entries entries_from entry_by nearest_div_ℕ poly_num poly_den term cofactor arc whole
 returns c = refl
-
-pub table-spec : {M : Type 1} → statement M
-table-spec = tie.close (tie.spec returns)

@@ -13,8 +13,8 @@ use Rattle.exact.specs.Division.{floor_div, nearest_div}
 use Rattle.exact.proofs.Differences.{split, zs, abs-dif}
 use Rattle.exact.proofs.Division.{nearest-half}
 use Rattle.exact.proofs.Quotient.{Positive, some, positive, quot_fits}
-use Rattle.exact.proofs.nearest_div.Statement.{statement}
-use Rattle.exact.proofs.nearest_div.Tie as tie
+use Rattle.exact.proofs.nearest_div.Goals.{Start}
+use Rattle.exact.proofs.nearest_div.Goals as goal
 
 record Half (a d : ℤ) : Type 0 where
   fits : SFits w64 (a +ℤ quot_z d (pos 2))
@@ -30,29 +30,15 @@ half a d h = go (positive d h)
     go : {d : ℤ} → Positive d → nat_abs a + 2 * nat_abs d ≤ 2 ^ 62 → Half a d
     go (some n p) b = let s = sizes a n b in record { fits = s.0; sized = s.1; same = nearest-half a n p }
 
-known : (s : tie.Start) → Half s.args.a s.args.d
+known : (s : Start) → Half s.args.a s.args.d
 known s = half s.args.a s.args.d s.requires.0 s.requires.1
 
-half-fits : (s : tie.Start) → SFits w64 (quot_z s.args.d (pos 2))
+half-fits : (s : Start) → SFits w64 (quot_z s.args.d (pos 2))
 half-fits s = quot_fits w64 s.args.d (pos 2) s.ranges.d (lt_z_yes tt)
 
-div-floor-div : tie.Need-nonzero-div-floor-div
-div-floor-div c = simp (to_z-of_z, c.ranges.d) (lit< tt, half-fits c)
-
-add-floor-div : tie.Need-overflow-add-floor-div
-add-floor-div c = simp (to_z-of_z, c.ranges.a, c.ranges.d, half-fits c) (known c).ranges
-
-floor-div-requires : tie.Need-floor-div-requires
-floor-div-requires c κs =
-    let k = known c in
-    simp (to_z-of_z, c.ranges.a, c.ranges.d, half-fits c, k.fits) (c.requires.0, k.sized)
-
-returns : tie.Need-returns
+pub returns : goal.returns
 returns c =
     let s = c.before in
     let k = known s in
-    let e = simp (to_z-of_z, s.ranges.a, s.ranges.d, half-fits s, k.fits) at c.floor-div.ensures in
-    simp (to_z-of_z, sfits_of, c.floor-div.type-inv) (e ∙ k.same)
-
-pub nearest-div-spec : {M : Type 1} → statement M
-nearest-div-spec = tie.close (tie.spec div-floor-div add-floor-div floor-div-requires returns)
+    let e = simp (to_z-of_z, s.ranges.a, s.ranges.d, half-fits s, k.fits) at c.floor_div.ensures in
+    simp (to_z-of_z, sfits_of, c.floor_div.type_inv) (e ∙ k.same)

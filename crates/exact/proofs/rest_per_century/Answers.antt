@@ -5,8 +5,8 @@ use native.Mathlib.Nat.{div-add-mod, mod-lt, mul-le-mul, mul-add-div_right, div-
 use native.Mathlib.Omega.{arith}
 use lib.Dec.{lit<}
 use Rattle.exact.specs.Century.{century}
-use Rattle.exact.proofs.rest_per_century.Statement.{statement}
-use Rattle.exact.proofs.rest_per_century.Tie as tie
+use Rattle.exact.proofs.rest_per_century.Goals.{Start}
+use Rattle.exact.proofs.rest_per_century.Goals as goal
 
 abbrev millionth : ℕ
 millionth = 3_155_760
@@ -23,7 +23,7 @@ parts b n =
     back b q r n e = rw (← e) (omega arith)
 
 -- ---- the sizes
-module _ (s : tie.Start) where
+module _ (s : Start) where
   abbrev b : ℕ
   b = s.args.b
 
@@ -31,26 +31,13 @@ module _ (s : tie.Start) where
   n = s.args.n
 
   high_le : b * (n / millionth) ≤ century * 2_800_000
-  high_le = mul-le-mul {n₂ = century} {m₂ = 2_800_000} (le_of_lt s.pre.0) (omega (arith, s.pre.1))
+  high_le = mul-le-mul {n₂ = century} {m₂ = 2_800_000} (le_of_lt s.requires.0) (omega (arith, s.requires.1))
 
   low-le : b * (n % millionth) ≤ century * millionth
-  low-le = mul-le-mul {n₂ = century} {m₂ = millionth} (le_of_lt s.pre.0) (le_of_lt (mod-lt n (lit< tt)))
+  low-le = mul-le-mul {n₂ = century} {m₂ = millionth} (le_of_lt s.requires.0) (le_of_lt (mod-lt n (lit< tt)))
 
   product_le : b * n ≤ century * n
-  product_le = mul-le-mul {n₂ = century} {m₂ = n} (le_of_lt s.pre.0) (omega arith)
+  product_le = mul-le-mul {n₂ = century} {m₂ = n} (le_of_lt s.requires.0) (omega arith)
 
--- ---- the needs
-mul-result : tie.Need-overflow-mul-result
-mul-result c = record { fits = omega (arith, high_le c) }
-
-mul-result-2 : tie.Need-overflow-mul-result-2
-mul-result-2 c = record { fits = omega (arith, low-le c) }
-
-add-result : tie.Need-overflow-add-result
-add-result c = record { fits = omega (arith, high_le c, low-le c) }
-
-returns : tie.Need-returns
+pub returns : goal.returns
 returns c = let e = parts (b c) (n c) in (e, omega (arith, e, product_le c))
-
-pub rest-per-century-spec : {M : Type 1} → statement M
-rest-per-century-spec = tie.close (tie.spec mul-result mul-result-2 add-result returns)

@@ -15,8 +15,8 @@ use Rattle.exact.proofs.Differences.{split, zs}
 use Rattle.exact.proofs.Division.{floor-add}
 use Rattle.exact.proofs.Integers.{abs-*-le}
 use Rattle.exact.proofs.Machine.{fits_le, to-nat}
-use Rattle.exact.proofs.per_century.Statement.{statement}
-use Rattle.exact.proofs.per_century.Tie as tie
+use Rattle.exact.proofs.per_century.Goals.{After-rest_per_century, Start}
+use Rattle.exact.proofs.per_century.Goals as goal
 
 -- ---- of any numbers
 law : (a b n : ℤ) → pos 0 ≤ℤ b → pos 0 ≤ℤ n → pos (nat_abs b * nat_abs n / century) +ℤ a *ℤ n ≡ floor_div ((pos century *ℤ a +ℤ b) *ℤ n) century
@@ -32,7 +32,7 @@ sum_fits : (r : ℕ) (z : ℤ) → r < 2 ^ 43 → nat_abs z ≤ 12 * 2 ^ 43 → 
 sum_fits r z = rw (split z) (simp zs (omega arith))
 
 -- ---- what is known
-module _ (s : tie.Start) where
+module _ (s : Start) where
   abbrev whole : ℤ
   whole = s.args.whole
 
@@ -40,55 +40,32 @@ module _ (s : tie.Start) where
   n = s.args.n
 
   product_le : nat_abs (whole *ℤ n) ≤ 12 * 2 ^ 43
-  product_le = abs-*-le whole n 12 (2 ^ 43) s.pre.0 (le_of_lt s.pre.2.1)
+  product_le = abs-*-le whole n 12 (2 ^ 43) s.requires.0 (le_of_lt s.requires.2.1)
 
   product-fits : SFits w64 (whole *ℤ n)
   product-fits = fits_le (12 * 2 ^ 43) _ product_le refl
 
-module _ (y : tie.After-rest-per-century) where
-  abbrev start : tie.Start
+module _ (y : After-rest_per_century) where
+  abbrev start : Start
   start = y.before
 
   abbrev r : ℕ
-  r = y.rest-per-century.result
+  r = y.rest_per_century.result
 
   called : (r ≡ nat_abs start.args.rest * nat_abs (n start) / century) × (r ≤ nat_abs (n start))
-  called = simp (to_z-of_z, start.fits.rest, start.fits.n) at y.rest-per-century.ensures
+  called = simp (to_z-of_z, start.ranges.rest, start.ranges.n) at y.rest_per_century.ensures
 
   small : r < 2 ^ 43
-  small = omega (arith, called.1, start.pre.2.1)
+  small = omega (arith, called.1, start.requires.2.1)
 
   r-fits : SFits w64 (pos r)
   r-fits = record { sfits = omega (arith, small) }
 
   result-is : pos r +ℤ whole start *ℤ n start ≡ floor_div ((pos century *ℤ whole start +ℤ start.args.rest) *ℤ n start) century
-  result-is = ap (λ (k : ℕ). pos k +ℤ whole start *ℤ n start) called.0 ∙ law (whole start) start.args.rest (n start) start.pre.1.0 start.pre.2.0
+  result-is = ap (λ (k : ℕ). pos k +ℤ whole start *ℤ n start) called.0 ∙ law (whole start) start.args.rest (n start) start.requires.1.0 start.requires.2.0
 
   result_fits : SFits w64 (pos r +ℤ whole start *ℤ n start)
   result_fits = sum_fits r (whole start *ℤ n start) small (product_le start)
 
--- ---- the needs
-cast-rest-per-century : tie.Need-overflow-cast-rest-per-century
-cast-rest-per-century s = simp (to_z-of_z, s.ranges.rest) (to-nat s.args.rest s.requires.1.0 s.ranges.rest)
-
-cast-rest-per-century-2 : tie.Need-overflow-cast-rest-per-century-2
-cast-rest-per-century-2 s = simp (to_z-of_z, s.ranges.n) (to-nat (n s) s.requires.2.0 s.ranges.n)
-
-rest-per-century-requires : tie.Need-rest-per-century-requires
-rest-per-century-requires s κs = simp (to_z-of_z, s.ranges.rest, s.ranges.n) (s.requires.1.1, s.requires.2.1)
-
-cast-result : tie.Need-overflow-cast-result
-cast-result y = r-fits y
-
-mul-result : tie.Need-overflow-mul-result
-mul-result y = let s = y.before in simp (to_z-of_z, s.ranges.whole, s.ranges.n) (product-fits s)
-
-add-result : tie.Need-overflow-add-result
-add-result y = let s = y.before in simp (to_z-of_z, s.ranges.whole, s.ranges.n, product-fits s, r-fits y) (result_fits y)
-
-returns : tie.Need-returns
+pub returns : goal.returns
 returns y = let s = y.before in simp (to_z-of_z, s.ranges.whole, s.ranges.n, product-fits s, r-fits y, result_fits y) (result-is y)
-
-pub per-century-spec : {M : Type 1} → statement M
-per-century-spec =
-    tie.close (tie.spec cast-rest-per-century cast-rest-per-century-2 rest-per-century-requires cast-result mul-result add-result returns)

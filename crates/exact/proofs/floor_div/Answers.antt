@@ -14,8 +14,8 @@ use Rattle.exact.proofs.Differences.{split, zs, abs-dif}
 use Rattle.exact.proofs.Division.{floor-offset}
 use Rattle.exact.proofs.Machine.{to-nat}
 use Rattle.exact.proofs.Quotient.{Positive, some, positive, bits_pos, floor-fits}
-use Rattle.exact.proofs.floor_div.Statement.{statement}
-use Rattle.exact.proofs.floor_div.Tie as tie
+use Rattle.exact.proofs.floor_div.Goals.{Start}
+use Rattle.exact.proofs.floor_div.Goals as goal
 
 -- what is asked of the numbers, with k multiples of d more
 record Lifted (a d k : ℤ) : Type 0 where
@@ -57,36 +57,17 @@ lifted a d p = go (positive d p)
 result_fits : (a d k : ℤ) → SFits w64 a → Lifted a d k → SFits w64 (pos (nat_abs (a +ℤ k *ℤ d) / nat_abs d) -ℤ k)
 result_fits a d k f l = subst⁻¹ (SFits w64) l.result (floor-fits w64 a (nat_abs d) f)
 
-known : (s : tie.Start) → Lifted s.args.a s.args.d (quot_z (pos (2 ^ 62)) s.args.d)
+known : (s : Start) → Lifted s.args.a s.args.d (quot_z (pos (2 ^ 62)) s.args.d)
 known s = lifted s.args.a s.args.d s.requires.0 s.requires.1
 
-div-k : tie.Need-nonzero-div-k
-div-k c = simp (to_z-of_z, c.ranges.d) (bits_pos w64 _ c.requires.0, (known c).times)
+pub overflow_cast-result : goal.overflow_cast-result
+overflow_cast-result c = let k = known c in simp (to_z-of_z, c.ranges.a, c.ranges.d, k.times, k.lift, k.sum) (to-nat _ k.natural k.sum)
 
-mul-result : tie.Need-overflow-mul-result
-mul-result c = let k = known c in simp (to_z-of_z, c.ranges.d, k.times) k.lift
+pub overflow_cast-result-3 : goal.overflow_cast-result-3
+overflow_cast-result-3 c = let k = known c in simp (to_z-of_z, c.ranges.a, c.ranges.d, k.times, k.lift, k.sum) k.quotient
 
-add-result : tie.Need-overflow-add-result
-add-result c = let k = known c in simp (to_z-of_z, c.ranges.a, c.ranges.d, k.times, k.lift) k.sum
+pub overflow_sub-result : goal.overflow_sub-result
+overflow_sub-result c = let k = known c in simp (to_z-of_z, c.ranges.a, c.ranges.d, k.times, k.lift, k.sum, k.quotient) (result_fits _ _ _ c.ranges.a k)
 
-cast-result : tie.Need-overflow-cast-result
-cast-result c = let k = known c in simp (to_z-of_z, c.ranges.a, c.ranges.d, k.times, k.lift, k.sum) (to-nat _ k.natural k.sum)
-
-cast-result-2 : tie.Need-overflow-cast-result-2
-cast-result-2 c = simp (to_z-of_z, c.ranges.d) (known c).divisor
-
-div-result : tie.Need-nonzero-div-result
-div-result c = simp (to_z-of_z, c.ranges.d) (known c).nonzero
-
-cast-result-3 : tie.Need-overflow-cast-result-3
-cast-result-3 c = let k = known c in simp (to_z-of_z, c.ranges.a, c.ranges.d, k.times, k.lift, k.sum) k.quotient
-
-sub-result : tie.Need-overflow-sub-result
-sub-result c = let k = known c in simp (to_z-of_z, c.ranges.a, c.ranges.d, k.times, k.lift, k.sum, k.quotient) (result_fits _ _ _ c.ranges.a k)
-
-returns : tie.Need-returns
+pub returns : goal.returns
 returns c = let k = known c in simp (to_z-of_z, c.ranges.a, c.ranges.d, k.times, k.lift, k.sum, k.quotient, result_fits _ _ _ c.ranges.a k) k.result
-
-pub floor-div-spec : {M : Type 1} → statement M
-floor-div-spec =
-    tie.close (tie.spec div-k mul-result add-result cast-result cast-result-2 div-result cast-result-3 sub-result returns)

@@ -13,15 +13,15 @@ use Rattle.exact.proofs.Division.{floor-scale}
 use Rattle.exact.proofs.Machine.{to-nat}
 use Rattle.epoch.specs.Epoch.{millionths, epoch}
 use Rattle.epoch.proofs.Sizes.{span-size, span-natural}
-use Rattle.epoch.proofs.epoch_of.Statement.{statement}
-use Rattle.epoch.proofs.epoch_of.Tie as tie
+use Rattle.epoch.proofs.epoch_of.Goals.{Start}
+use Rattle.epoch.proofs.epoch_of.Goals as goal
 
-module _ (s : tie.Start) where
+module _ (s : Start) where
   abbrev n : ℤ
   n = s.args.n
 
   natural : pos 0 ≤ℤ n
-  natural = span-natural n s.pre
+  natural = span-natural n s.requires
 
   q-is : pos (nat_abs n / 3_155_760) ≡ millionths n
   unfolding millionths floor_div
@@ -30,16 +30,7 @@ module _ (s : tie.Start) where
       ∙ sym (floor-scale n 3_155_760 1_000_000 (lit< tt) (lit< tt))
 
   q-fits : SFits w64 (pos (nat_abs n / 3_155_760))
-  q-fits = record { sfits = omega (arith, span-size n s.pre) }
+  q-fits = record { sfits = omega (arith, span-size n s.requires) }
 
-cast-t2 : tie.Need-overflow-cast-t2
-cast-t2 c = simp (to_z-of_z, c.ranges.n) (to-nat (n c) (natural c) c.ranges.n)
-
-cast-t4 : tie.Need-overflow-cast-t4
-cast-t4 c = simp (to_z-of_z, c.ranges.n) (q-fits c)
-
-returns : tie.Need-returns
+pub returns : goal.returns
 returns c = simp (to_z-of_z, c.ranges.n, q-fits c) (ap (epoch (n c)) (q-is c), record { span = c.requires; millionths = q-is c })
-
-pub epoch-of-spec : {M : Type 1} → statement M
-epoch-of-spec = tie.close (tie.spec cast-t2 cast-t4 returns)
