@@ -8,8 +8,7 @@ use Rattle.exact.specs.Division.{nearest_div_ℕ}
 use Rattle.sine_table.specs.Step.{step}
 use Rattle.sine_table.specs.Table.{R}
 use Rattle.sine.specs.Sine.{interpolated}
-use Rattle.sine.proofs.interpolated.Statement.{statement}
-use Rattle.sine.proofs.interpolated.Tie as tie
+use Rattle.sine.proofs.interpolated.Goals as goal
 
 -- d between the entries, r units on and s to go
 weighed : (low d r s : ℕ) → r + s ≡ step → low * s + (low + d) * r ≡ step * low + d * r
@@ -25,26 +24,8 @@ shared : (low d r : ℕ) → r ≤ step → low + (d * r + step / 2) / step ≡ 
 unfolding nearest_div_ℕ
 shared low d r h = let e = weighed low d r (step - r) (omega arith) in omega arith
 
-share-le : (c : tie.Start) → (c.args.high - c.args.low) * c.args.r ≤ R * step
-share-le c = mul-le-mul {n₂ = R} {m₂ = step} (omega arith) c.requires.2
-
-sub-result : tie.Need-overflow-sub-result
-sub-result c = search rules
-
-mul-result : tie.Need-overflow-mul-result
-mul-result c = omega (arith, share-le c)
-
-add-result : tie.Need-overflow-add-result
-add-result c = omega (arith, share-le c)
-
-add-result-2 : tie.Need-overflow-add-result-2
-add-result-2 c = omega (arith, share-le c)
-
-returns : tie.Need-returns
+pub returns : goal.returns
 returns c =
     let a = c.args in
     let e : a.low + (a.high - a.low) ≡ a.high = omega arith in
     (rw e at (shared a.low (a.high - a.low) a.r c.requires.2), omega (arith, mul-le-mul_left (a.high - a.low) c.requires.2))
-
-pub interpolated-spec : {M : Type 1} → statement M
-interpolated-spec = tie.close (tie.spec sub-result mul-result add-result add-result-2 returns)
