@@ -20,7 +20,7 @@ value n (b ∷ l) = value (cond (eqb b 32) n (10 * n + (b - 48))) l
 value-append : (n : ℕ) (l m : List ℕ) → value n (l ++ m) ≡ value (value n l) m
 unfolding value
 value-append n [] m = refl
-value-append n (b ∷ l) m = value-append _ l m
+value-append n (b ∷ l) m = value-append (cond (eqb b 32) n (10 * n + (b - 48))) l m
 
 value-digit : (n d : ℕ) → value n ((48 + d) ∷ []) ≡ 10 * n + d
 unfolding value
