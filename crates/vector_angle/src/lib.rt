@@ -97,9 +97,9 @@ fn share(part: u64, whole: u64) -> u64
     }
 }
 
-// The first of four units of step n among which is the last that passes. Over the step typeof.x.Sin and typeof.y.Cos are straight lines, but for their
-// roundings: at its start typeof.y.Cos is ahead by `gap`, and to its end the two come nearer by `slope`. As a rounding is a half at most, the
-// test passes while typeof.y.Cos is ahead by (x + y) / 2, and fails once it is behind by more than that, less than three units on.
+// The first of four units of step n among which is the last that passes. Over the step x·Sin and y·Cos are straight lines, but for their
+// roundings: at its start y·Cos is ahead by `gap`, and to its end the two come nearer by `slope`. As a rounding is a half at most, the
+// test passes while y·Cos is ahead by (x + y) / 2, and fails once it is behind by more than that, less than three units on.
 fn window(t: &SineTable, x: u64, y: u64, n: usize) -> u64
     requires { (t.now ≡ entries) × (x ≤ 2 ^ 34) × (y ≤ 2 ^ 34) × Among (start_passes x y) n 1 step_count }
     ensures { Among (unit_passes x y n) result 4 step }

@@ -4,19 +4,12 @@ use Rattle.exact.proofs.Machine.{held}
 use Rattle.rotation.specs.Rotation.{rotation1}
 use Rattle.rotation.specs.Length.{axis1}
 use Rattle.rotation.proofs.Sizes.{sines-held}
-use Rattle.rotation.proofs.rotation1.Statement.{statement}
-use Rattle.rotation.proofs.rotation1.Tie as tie
+use Rattle.rotation.proofs.rotation1.Goals as goal
 
-sines-of-requires : tie.Need-sines-of-requires
-sines-of-requires c κs = simp (to_z-of_z, c.ranges.a) c.requires
-
-returns : tie.Need-returns
+pub returns : goal.returns
 unfolding held rotation1
 returns c =
     let s = c.before.before.before in
-    let k = c.before.before.sines-of in
+    let k = c.before.before.sines_of-k in
     let e = sines-held s.args.a _ _ _ (simp (to_z-of_z, s.ranges.a) at k.ensures) in
     rw (e.0, e.1, e.2) (refl, axis1 s.args.a)
-
-pub rotation1-spec : {M : Type 1} → statement M
-rotation1-spec = tie.close (tie.spec sines-of-requires returns)
