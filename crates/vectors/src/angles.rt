@@ -11,6 +11,7 @@ use refusal::Refusal;
 use rotation::Direction;
 use sine_table::SineTable;
 use site::{Located, Position, Site};
+use std::io::Stdout;
 
 // A component of a vector is at most so large.
 const REACH: u64 = 17_179_869_184;
@@ -19,31 +20,32 @@ const REACH: u64 = 17_179_869_184;
 const SIDE: u64 = 800_000_000;
 
 // The sine and the cosine of a reduced angle.
-pub fn sines(t: &SineTable, a: i64)
+pub fn sines(out: Stdout, t: &SineTable, a: i64)
     requires { t.now ≡ entries }
 {
     if !exact::is_reduced(a) {
-        return output::malformed();
+        return output::malformed(out);
     }
     let angle = exact::reduced(a);
-    output::accepted();
-    output::integer(sine::sin(t, angle));
-    output::integer(sine::cos(t, angle));
+    output::accepted(out);
+    output::integer(out, sine::sin(t, angle));
+    output::integer(out, sine::cos(t, angle));
 }
 
 // The angle of the vector (x, y).
-pub fn of_vector(t: &SineTable, x: i64, y: i64)
+pub fn of_vector(out: Stdout, t: &SineTable, x: i64, y: i64)
     requires { t.now ≡ entries }
 {
     if REACH < larger(exact::magnitude(x), exact::magnitude(y)) {
-        return output::malformed();
+        return output::malformed(out);
     }
-    output::accepted();
-    output::natural(vector_angle::angle(t, x, y));
+    output::accepted(out);
+    output::natural(out, vector_angle::angle(t, x, y));
 }
 
 // The view of a direction (x, y, z) at a sidereal time, from a latitude and a longitude in 0.1″.
 pub fn of_direction(
+    out: Stdout,
     t: &SineTable,
     x: i64,
     y: i64,
@@ -59,16 +61,22 @@ pub fn of_direction(
         longitude: longitude,
     });
     if !located.known {
-        return output::refused(Refusal::NoPosition);
+        return output::refused(out, Refusal::NoPosition);
     }
     if !exact::is_reduced(sidereal) {
-        return output::malformed();
+        return output::malformed(out);
     }
     let side = larger(exact::magnitude(x), exact::magnitude(y));
     if SIDE < larger(side, exact::magnitude(z)) {
-        return output::malformed();
+        return output::malformed(out);
     }
-    from_position(t, [x, y, z], exact::reduced(sidereal), located.position);
+    from_position(
+        out,
+        t,
+        [x, y, z],
+        exact::reduced(sidereal),
+        located.position,
+    );
 }
 
 fn larger(a: u64, b: u64) -> u64
@@ -102,22 +110,22 @@ pub fn located(site: Site) -> KnownPosition
     }
 }
 
-fn from_position(t: &SineTable, d: Direction, sidereal: u64, position: Position)
+fn from_position(out: Stdout, t: &SineTable, d: Direction, sidereal: u64, position: Position)
     requires { (t.now ≡ entries) × (squared_length d + 2 * growth ≤ reach) × (sidereal < turn) × PositionSized position }
 {
     let sighting = horizon::sight(t, d, sidereal, position);
-    output::sight_begin(sighting);
-    write_view(t, d, sidereal, position);
-    output::sight_end(sighting);
+    output::sight_begin(out, sighting);
+    write_view(out, t, d, sidereal, position);
+    output::sight_end(out, sighting);
 }
 
 // A direction d, then (x', east, z), then up and north.
-pub fn write_view(t: &SineTable, d: Direction, sidereal: u64, position: Position)
+pub fn write_view(out: Stdout, t: &SineTable, d: Direction, sidereal: u64, position: Position)
     requires { (t.now ≡ entries) × (squared_length d + 2 * growth ≤ reach) × (sidereal < turn) × PositionSized position }
 {
     let m = horizon::to_meridian(t, d, sidereal, position.longitude);
     let h = horizon::to_horizon(t, m, position.latitude);
-    output::integers(&d);
-    output::integers(&m);
-    output::integers(&[h[0], h[2]]);
+    output::integers(out, &d);
+    output::integers(out, &m);
+    output::integers(out, &[h[0], h[2]]);
 }

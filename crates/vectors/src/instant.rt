@@ -24,6 +24,7 @@ use refusal::Refusal;
 use rotation::Direction;
 use sine_table::SineTable;
 use site::{Position, Site};
+use std::io::Stdout;
 
 // An accepted instant: its epochs, the frame of the date, Greenwich sidereal time, the angle g of the centre terms alone, and the Sun's apparent
 // longitude s.
@@ -37,20 +38,20 @@ pub struct Quantities {
 }
 
 // D of a date.
-pub fn date(year: i64, month: i64, day: i64) {
+pub fn date(out: Stdout, year: i64, month: i64, day: i64) {
     if !calendar::is_date(year, month, day) {
-        return output::refused(Refusal::NoDate);
+        return output::refused(out, Refusal::NoDate);
     }
-    output::accepted();
-    output::natural(calendar::day_count(year, month, day));
+    output::accepted(out);
+    output::natural(out, calendar::day_count(year, month, day));
 }
 
 // The shot with plain numbers.
-pub fn shot(t: &SineTable, fields: &[i64], edition: i64)
+pub fn shot(out: Stdout, t: &SineTable, fields: &[i64], edition: i64)
     requires { (t.now ≡ entries) × (field_count ≤ length fields.now) }
 {
     let query = fieldbook::query_with(fields, Options { edition: edition });
-    output::shot(fieldbook::shot_with(t, query));
+    output::shot(out, fieldbook::shot_with(t, query));
 }
 
 // The fields of an instant alone, whose line has the numbers of fields 1 to 7 and 11: no site, and no body.
@@ -59,13 +60,13 @@ pub fn fields_of(n: [i64; lines::ROW]) -> [i64; card::FIELDS] {
 }
 
 // Answers what is asked with the numbers of the fields.
-pub fn at(t: &SineTable, asked: Word, fields: &[i64], edition: i64)
+pub fn at(out: Stdout, t: &SineTable, asked: Word, fields: &[i64], edition: i64)
     requires { (t.now ≡ entries) × (field_count ≤ length fields.now) }
 {
     let numbers = fieldbook::numbers_of(fields);
     match calendar::instant_of(numbers.time) {
-        Instant::Accepted(epochs) => answer_at(t, asked, epochs, numbers, edition),
-        Instant::Refused(refusal) => output::refused(refusal),
+        Instant::Accepted(epochs) => answer_at(out, t, asked, epochs, numbers, edition),
+        Instant::Refused(refusal) => output::refused(out, refusal),
     }
 }
 
@@ -98,55 +99,62 @@ fn longitude_of(
     sun::apparent_longitude(t, edition, arguments, e, f.dpsi, sun::ABERRATION)
 }
 
-fn answer_at(t: &SineTable, asked: Word, epochs: Epochs, numbers: Numbers, edition: i64)
+fn answer_at(
+    out: Stdout,
+    t: &SineTable,
+    asked: Word,
+    epochs: Epochs,
+    numbers: Numbers,
+    edition: i64,
+)
     requires { (t.now ≡ entries) × (InSpan epochs.universal × InSpan epochs.ephemeris) }
 {
     match asked {
         Word::Instant => {
-            output::accepted();
-            write_time(epochs);
+            output::accepted(out);
+            write_time(out, epochs);
         }
-        Word::Longitude => write_longitude(t, epochs, edition),
+        Word::Longitude => write_longitude(out, t, epochs, edition),
         Word::Sun => {
-            output::accepted();
-            write_sun(t, quantities_of(t, epochs, edition));
+            output::accepted(out);
+            write_sun(out, t, quantities_of(t, epochs, edition));
         }
-        _ => parts(t, epochs, numbers.site, numbers.body, edition),
+        _ => parts(out, t, epochs, numbers.site, numbers.body, edition),
     }
 }
 
 // s, where the edition is one.
-fn write_longitude(t: &SineTable, epochs: Epochs, edition: i64)
+fn write_longitude(out: Stdout, t: &SineTable, epochs: Epochs, edition: i64)
     requires { (t.now ≡ entries) × (InSpan epochs.universal × InSpan epochs.ephemeris) }
 {
     if !exact::between(1, edition, 2) {
-        return output::refused(Refusal::NoEdition);
+        return output::refused(out, Refusal::NoEdition);
     }
     let quantities = quantities_of(t, epochs, edition);
-    output::accepted();
-    output::natural(quantities.longitude);
+    output::accepted(out);
+    output::natural(out, quantities.longitude);
 }
 
 // N and its q, then N with ΔT, its q and the arguments, those of the full edition last.
-fn write_time(epochs: Epochs)
+fn write_time(out: Stdout, epochs: Epochs)
     requires { InSpan epochs.ephemeris }
 {
     let u = epochs.universal;
     let e = epochs.ephemeris;
-    output::integers(&[u.n, u.q, e.n, e.q]);
+    output::integers(out, &[u.n, u.q, e.n, e.q]);
     let arguments = arguments::arguments_of(e);
-    output::integers(&arguments::full_arguments_of(&arguments, e));
+    output::integers(out, &arguments::full_arguments_of(&arguments, e));
 }
 
 // What almanacs print of the Sun: s, Δψ, Δε, the true obliquity, sidereal time, right ascension and declination.
-fn write_sun(t: &SineTable, quantities: Quantities)
+fn write_sun(out: Stdout, t: &SineTable, quantities: Quantities)
     requires { (t.now ≡ entries) × QuantitiesSized quantities }
 {
     let f = quantities.frame;
-    output::natural(quantities.longitude);
-    output::integers(&[f.dpsi, difference(f.epsilon, f.epsilon0), f.epsilon]);
-    output::natural(quantities.sidereal);
-    write_equatorial(t, sun::direction(t, quantities.longitude, f.epsilon));
+    output::natural(out, quantities.longitude);
+    output::integers(out, &[f.dpsi, difference(f.epsilon, f.epsilon0), f.epsilon]);
+    output::natural(out, quantities.sidereal);
+    write_equatorial(out, t, sun::direction(t, quantities.longitude, f.epsilon));
 }
 
 fn difference(a: i64, b: i64) -> i64
@@ -156,68 +164,68 @@ fn difference(a: i64, b: i64) -> i64
 }
 
 // Right ascension and declination of a direction.
-fn write_equatorial(t: &SineTable, d: Direction)
+fn write_equatorial(out: Stdout, t: &SineTable, d: Direction)
     requires { (t.now ≡ entries) × (squared_length d ≤ reach) }
 {
     let m = exact::magnitude(d[0]);
     let n = exact::magnitude(d[1]);
     let h = exact::root(m * m + n * n) as i64;
-    output::natural(vector_angle::angle(t, d[0], d[1]));
-    write_short_way(vector_angle::angle(t, h, d[2]));
+    output::natural(out, vector_angle::angle(t, d[0], d[1]));
+    write_short_way(out, vector_angle::angle(t, h, d[2]));
 }
 
 // A reduced angle, less a turn where that is nearer to 0: a declination is negative south of the equator.
-fn write_short_way(a: u64)
+fn write_short_way(out: Stdout, a: u64)
     requires { a < turn }
 {
     if 2 * sine::QUADRANT < a {
-        output::negative(4 * sine::QUADRANT - a);
+        output::negative(out, 4 * sine::QUADRANT - a);
     } else {
-        output::natural(a);
+        output::natural(out, a);
     }
 }
 
 // Every step of a shot, in the order of tools/vectors.py.
-fn parts(t: &SineTable, epochs: Epochs, site: Site, body: i64, edition: i64)
+fn parts(out: Stdout, t: &SineTable, epochs: Epochs, site: Site, body: i64, edition: i64)
     requires { (t.now ≡ entries) × (InSpan epochs.universal × InSpan epochs.ephemeris) }
 {
     let located = angles::located(site);
     if !located.known {
-        return output::refused(Refusal::NoPosition);
+        return output::refused(out, Refusal::NoPosition);
     }
     if !exact::between(1, body, 2) {
-        return output::refused(Refusal::NoBody);
+        return output::refused(out, Refusal::NoBody);
     }
     if !exact::between(1, edition, 2) {
-        return output::refused(Refusal::NoEdition);
+        return output::refused(out, Refusal::NoEdition);
     }
     let quantities = quantities_of(t, epochs, edition);
-    parts_from(t, quantities, located.position, body == 1);
+    parts_from(out, t, quantities, located.position, body == 1);
 }
 
-fn parts_from(t: &SineTable, quantities: Quantities, position: Position, is_sun: bool)
+fn parts_from(out: Stdout, t: &SineTable, quantities: Quantities, position: Position, is_sun: bool)
     requires { (t.now ≡ entries) × QuantitiesSized quantities × PositionSized position }
 {
     let d = direction_of(t, quantities, is_sun);
     let sighting = horizon::sight(t, d, quantities.sidereal, position);
-    output::sight_begin(sighting);
-    write_time(quantities.epochs);
-    write_frame(quantities);
+    output::sight_begin(out, sighting);
+    write_time(out, quantities.epochs);
+    write_frame(out, quantities);
     if is_sun {
-        output::natural(quantities.longitude);
+        output::natural(out, quantities.longitude);
     } else {
-        write_polaris(t, quantities);
+        write_polaris(out, t, quantities);
     }
-    angles::write_view(t, d, quantities.sidereal, position);
-    output::sight_end(sighting);
+    angles::write_view(out, t, d, quantities.sidereal, position);
+    output::sight_end(out, sighting);
 }
 
 // Δψ, the mean obliquity, ε, sidereal time and g.
-fn write_frame(quantities: Quantities) {
+fn write_frame(out: Stdout, quantities: Quantities) {
     let f = quantities.frame;
-    output::integers(&[f.dpsi, f.epsilon0, f.epsilon]);
-    output::natural(quantities.sidereal);
-    output::natural(quantities.centre);
+    output::integers(out, &[f.dpsi, f.epsilon0, f.epsilon]);
+    output::natural(out, quantities.sidereal);
+    output::natural(out, quantities.centre);
 }
 
 fn direction_of(t: &SineTable, quantities: Quantities, is_sun: bool) -> Direction
@@ -240,20 +248,20 @@ fn direction_of(t: &SineTable, quantities: Quantities, is_sun: bool) -> Directio
 }
 
 // Of Polaris p, right ascension, declination, ζ, z, θ, the catalogue's direction and that before aberration.
-fn write_polaris(t: &SineTable, quantities: Quantities)
+fn write_polaris(out: Stdout, t: &SineTable, quantities: Quantities)
     requires { (t.now ≡ entries) × QuantitiesSized quantities }
 {
     let p = polaris::tropical_millionths(quantities.epochs.ephemeris);
     let k = polaris::elements_of(p);
-    output::integers(&[p, k.alpha, k.delta, k.zeta, k.z, k.theta]);
-    output::integers(&polaris::catalogue(t, k.alpha, k.delta));
-    write_before_aberration(t, quantities, k);
+    output::integers(out, &[p, k.alpha, k.delta, k.zeta, k.z, k.theta]);
+    output::integers(out, &polaris::catalogue(t, k.alpha, k.delta));
+    write_before_aberration(out, t, quantities, k);
 }
 
-fn write_before_aberration(t: &SineTable, quantities: Quantities, k: Elements)
+fn write_before_aberration(out: Stdout, t: &SineTable, quantities: Quantities, k: Elements)
     requires { (t.now ≡ entries) × QuantitiesSized quantities × ElementsSized k }
 {
     let f = quantities.frame;
     let d = polaris::true_direction(t, k, f.epsilon0, f.dpsi, f.epsilon);
-    output::integers(&d);
+    output::integers(out, &d);
 }

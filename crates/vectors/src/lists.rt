@@ -4,28 +4,29 @@ ghost use Rattle.lines.specs.Numerals.{row_length};
 
 use crate::output;
 use lines::Row;
+use std::io::Stdout;
 
 // The refusal's number, and the results that are handed back.
-pub fn choice(row: Row)
+pub fn choice(out: Stdout, row: Row)
     requires { row.count ≤ row_length }
 {
     let numbers = row.numbers;
     let count = row.count;
-    choice_of(&numbers[..count]);
+    choice_of(out, &numbers[..count]);
 }
 
-fn choice_of(numbers: &[i64]) {
+fn choice_of(out: Stdout, numbers: &[i64]) {
     let n = first_length(numbers);
     if numbers.len() < n + 2 {
-        return output::malformed();
+        return output::malformed(out);
     }
     let end = n + 1;
     let start = end + 1;
     let left = numbers.len() - start;
     if numbers[end] < 0 || exact::magnitude(numbers[end]) != left as u64 {
-        return output::malformed();
+        return output::malformed(out);
     }
-    write_chosen(&numbers[1..end], &numbers[start..]);
+    write_chosen(out, &numbers[1..end], &numbers[start..]);
 }
 
 // How many results the first list has, by the first number; all that there are where that is no such number.
@@ -39,9 +40,9 @@ fn first_length(numbers: &[i64]) -> usize
     if n < numbers.len() { n } else { numbers.len() }
 }
 
-fn write_chosen<'a>(first: &'a [i64], second: &'a [i64]) {
+fn write_chosen<'a>(out: Stdout, first: &'a [i64], second: &'a [i64]) {
     let mut refusal = 0;
     let list = spread::chosen(first, second, &mut refusal);
-    output::number(refusal);
-    output::integers(list);
+    output::number(out, refusal);
+    output::integers(out, list);
 }

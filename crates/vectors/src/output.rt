@@ -2,171 +2,171 @@
 use card::{Card, Field, Reading};
 use fieldbook::Outcome;
 use horizon::Sighting;
-use libc::STDOUT_FILENO;
 use pointing::Mark;
 use refusal::{Refusal, Verdict};
+use std::io::Stdout;
 
-pub fn newline() {
-    io::write_all(STDOUT_FILENO, b"\n");
+pub fn newline(out: Stdout) {
+    let _ = out.write_all(b"\n");
 }
 
 // The number that an answer begins with.
-pub fn accepted() {
-    io::write_all(STDOUT_FILENO, b"0");
+pub fn accepted(out: Stdout) {
+    let _ = out.write_all(b"0");
 }
 
-pub fn refused(refusal: Refusal) {
-    number(refusal::number_of(refusal));
+pub fn refused(out: Stdout, refusal: Refusal) {
+    number(out, refusal::number_of(refusal));
 }
 
-pub fn number(refusal: u64) {
-    io::print_decimal(STDOUT_FILENO, refusal);
+pub fn number(out: Stdout, refusal: u64) {
+    let _ = out.print(refusal);
 }
 
-pub fn malformed() {
-    refused(Refusal::Malformed);
+pub fn malformed(out: Stdout) {
+    refused(out, Refusal::Malformed);
 }
 
-pub fn verdict(verdict: Verdict) {
+pub fn verdict(out: Stdout, verdict: Verdict) {
     match verdict {
-        Verdict::Accepted => accepted(),
-        Verdict::Refused(refusal) => refused(refusal),
+        Verdict::Accepted => accepted(out),
+        Verdict::Refused(refusal) => refused(out, refusal),
     }
 }
 
-pub fn space() {
-    io::write_all(STDOUT_FILENO, b" ");
+pub fn space(out: Stdout) {
+    let _ = out.write_all(b" ");
 }
 
 // A reading's refusal number and length, of which one is always 0.
-pub fn reading(reading: Reading) {
+pub fn reading(out: Stdout, reading: Reading) {
     match reading {
         Reading::Written(length) => {
-            accepted();
-            natural(length as u64);
+            accepted(out);
+            natural(out, length as u64);
         }
         Reading::Refused(refusal) => {
-            refused(refusal);
-            natural(0);
+            refused(out, refusal);
+            natural(out, 0);
         }
     }
 }
 
 // A number behind a space.
-pub fn natural(n: u64) {
-    space();
-    io::print_decimal(STDOUT_FILENO, n);
+pub fn natural(out: Stdout, n: u64) {
+    space(out);
+    let _ = out.print(n);
 }
 
-pub fn negative(n: u64) {
-    io::write_all(STDOUT_FILENO, b" -");
-    io::print_decimal(STDOUT_FILENO, n);
+pub fn negative(out: Stdout, n: u64) {
+    let _ = out.write_all(b" -");
+    let _ = out.print(n);
 }
 
-pub fn integer(n: i64) {
-    space();
-    signed(n);
+pub fn integer(out: Stdout, n: i64) {
+    space(out);
+    signed(out, n);
 }
 
-fn signed(n: i64) {
+fn signed(out: Stdout, n: i64) {
     if n < 0 {
-        io::write_all(STDOUT_FILENO, b"-");
+        let _ = out.write_all(b"-");
     }
-    io::print_decimal(STDOUT_FILENO, exact::magnitude(n));
+    let _ = out.print(exact::magnitude(n));
 }
 
-pub fn integers(numbers: &[i64]) {
+pub fn integers(out: Stdout, numbers: &[i64]) {
     for i in 0..numbers.len() {
-        integer(numbers[i]);
+        integer(out, numbers[i]);
     }
 }
 
 // A shot: the refusal's number and four angles, zeros where it is refused.
-pub fn shot(outcome: Outcome) {
+pub fn shot(out: Stdout, outcome: Outcome) {
     match outcome {
         Outcome::Answered(a) => {
-            accepted();
-            natural(a.azimuth);
-            natural(a.zenith_distance);
-            natural(a.hour_angle);
-            natural(a.longitude);
+            accepted(out);
+            natural(out, a.azimuth);
+            natural(out, a.zenith_distance);
+            natural(out, a.hour_angle);
+            natural(out, a.longitude);
         }
         Outcome::Refused(refusal) => {
-            refused(refusal);
-            io::write_all(STDOUT_FILENO, b" 0 0 0 0");
+            refused(out, refusal);
+            let _ = out.write_all(b" 0 0 0 0");
         }
     }
 }
 
 // A pointing: the refusal's number and the mark's azimuth, 0 where it is refused.
-pub fn mark(mark: Mark) {
+pub fn mark(out: Stdout, mark: Mark) {
     match mark {
         Mark::Azimuth(azimuth) => {
-            accepted();
-            natural(azimuth);
+            accepted(out);
+            natural(out, azimuth);
         }
         Mark::Refused(refusal) => {
-            refused(refusal);
-            natural(0);
+            refused(out, refusal);
+            natural(out, 0);
         }
     }
 }
 
 // What a sight begins its answer with, and what it ends it with.
-pub fn sight_begin(sighting: Sighting) {
+pub fn sight_begin(out: Stdout, sighting: Sighting) {
     match sighting {
-        Sighting::Seen(_) => accepted(),
-        Sighting::Refused(refusal) => refused(refusal),
+        Sighting::Seen(_) => accepted(out),
+        Sighting::Refused(refusal) => refused(out, refusal),
     }
 }
 
-pub fn sight_end(sighting: Sighting) {
+pub fn sight_end(out: Stdout, sighting: Sighting) {
     if let Sighting::Seen(a) = sighting {
-        natural(a.azimuth);
-        natural(a.zenith_distance);
-        natural(a.hour_angle);
+        natural(out, a.azimuth);
+        natural(out, a.zenith_distance);
+        natural(out, a.hour_angle);
     }
 }
 
 // The bar, and each field's state and number.
-pub fn card(card: Card) {
-    io::write_all(STDOUT_FILENO, b"|");
+pub fn card(out: Stdout, card: Card) {
+    let _ = out.write_all(b"|");
     for i in 0..card::FIELDS {
-        field(card::field_of(card, (i + 1) as i64));
+        field(out, card::field_of(card, (i + 1) as i64));
     }
 }
 
-fn field(field: Field) {
+fn field(out: Stdout, field: Field) {
     match field {
         Field::Empty => {
-            io::write_all(STDOUT_FILENO, b" e");
+            let _ = out.write_all(b" e");
         }
-        Field::Heard(n) => state(b'h', n),
-        Field::Read(n) => state(b'r', n),
-        Field::Confirmed(n) => state(b'c', n),
+        Field::Heard(n) => state(out, b'h', n),
+        Field::Read(n) => state(out, b'r', n),
+        Field::Confirmed(n) => state(out, b'c', n),
     }
 }
 
-fn state(letter: u8, n: i64) {
-    io::write_all(STDOUT_FILENO, &[b' ', letter]);
-    signed(n);
+fn state(out: Stdout, letter: u8, n: i64) {
+    let _ = out.write_all(&[b' ', letter]);
+    signed(out, n);
 }
 
 // A buffer as pairs of hexadecimal digits, or "-" where it is empty.
-pub fn hex(buffer: &[u8]) {
-    space();
+pub fn hex(out: Stdout, buffer: &[u8]) {
+    space(out);
     if buffer.len() == 0 {
-        io::write_all(STDOUT_FILENO, b"-");
+        let _ = out.write_all(b"-");
     }
-    hex_pairs(buffer);
+    hex_pairs(out, buffer);
 }
 
-fn hex_pairs(buffer: &[u8]) {
+fn hex_pairs(out: Stdout, buffer: &[u8]) {
     for i in 0..buffer.len() {
-        hex_pair(buffer[i]);
+        hex_pair(out, buffer[i]);
     }
 }
 
-fn hex_pair(b: u8) {
-    io::print_hex(STDOUT_FILENO, b as u64, 2);
+fn hex_pair(out: Stdout, b: u8) {
+    let _ = print!(out; "{b:02x}");
 }
