@@ -1,0 +1,40 @@
+-- Each test is one of `is_time`'s.
+use mathlib.Core.Path.{◌≡◌, sym, ap, ◌∙◌}
+use Prim.Native.Nat.{ℕ}
+use native.Mathlib.Omega.{arith}
+use lib.IntN.{pos, nat_abs}
+use mir.Facts.{to_z-of_z}
+use mir.Syntax.{w64}
+use mir.Val.{SFits}
+use Rattle.exact.specs.Range.{between}
+use Rattle.calendar.specs.Time.{last_millisecond, is_time}
+use Rattle.calendar.proofs.is_time.Goals as goal
+
+pub returns-then-between-2 : goal.returns-then-between-2
+unfolding is_time
+returns-then-between-2 c =
+    let a = c.args in
+    let r = c.ranges in
+    let hour = simp (to_z-of_z, r.hour) at c.between.ensures in
+    let minute = simp (to_z-of_z, r.minute) at c.between-then-between.ensures in
+    let month = simp (to_z-of_z, r.month) at c.magnitude.ensures in
+    let day = simp (to_z-of_z, r.day) at c.magnitude-then-between-2.ensures in
+    let h = simp (to_z-of_z, r.hour) at c.magnitude-then-between-2-2.ensures in
+    let m = simp (to_z-of_z, r.minute) at c.magnitude-then-between-2-3.ensures in
+    let last : c.last_millisecond.result ≡ last_millisecond (nat_abs a.month) (nat_abs a.day) (nat_abs a.hour) (nat_abs a.minute) =
+        cc (c.last_millisecond.ensures.0, month, day, h, m) in
+    let f : SFits w64 (pos c.last_millisecond.result) = record { sfits = omega (arith, c.last_millisecond.ensures.1) } in
+    let e = simp (to_z-of_z, r.millisecond, f) at c.between-then-between-2.ensures in
+    simp (sym hour ∙ c.if-between.true, sym minute ∙ c.if-between-2.true)
+    (e ∙ ap (λ (n : ℕ). between (pos 0) a.millisecond (pos n)) last)
+
+pub returns-else-between-2 : goal.returns-else-between-2
+unfolding is_time
+returns-else-between-2 c =
+    let hour = simp (to_z-of_z, c.ranges.hour) at c.between.ensures in
+    let minute = simp (to_z-of_z, c.ranges.minute) at c.between-then-between.ensures in
+    simp (sym hour ∙ c.if-between.true, sym minute ∙ c.if-between-2.false) c.if-between-2.false
+
+pub returns-else-between : goal.returns-else-between
+unfolding is_time
+returns-else-between c = let hour = simp (to_z-of_z, c.ranges.hour) at c.between.ensures in simp (sym hour ∙ c.if-between.false) c.if-between.false
