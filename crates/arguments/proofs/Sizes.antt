@@ -17,13 +17,13 @@ use Rattle.arguments.specs.Sizes.{RowSized, RowsSized}
 abbrev pub stored : List ℤ → List ℤ
 stored row = nth row 0 ∷ floor_div (nth row 1) century ∷ pos (rest (nth row 1) century) ∷ nth row 2 ∷ []
 
-abbrev row_sized : List ℤ → Bool
-row_sized row =
+abbrev is_row_sized : List ℤ → Bool
+is_row_sized row =
     leb (nat_abs (nth row 0)) (2 ^ 40)
     && (leb (nat_abs (nth row 1)) 12 && (le_z (pos 0) (nth row 2) && (ltb (nat_abs (nth row 2)) century && leb (nat_abs (nth row 3)) (2 * 10 ^ 6))))
 
-row_sized : (row : List ℤ) → T (row_sized row) → RowSized row
-row_sized row t =
+row-sized : (row : List ℤ) → T (is_row_sized row) → RowSized row
+row-sized row t =
     let a = leb (nat_abs (nth row 0)) (2 ^ 40) in
     let b = leb (nat_abs (nth row 1)) 12 in
     let c = le_z (pos 0) (nth row 2) in
@@ -40,5 +40,5 @@ row_sized row t =
       c2 = leb→le _ _ (and_r d e u);
     }
 
-pub rows-sized : (rows : List (List ℤ)) → T (all_below (λ i. row_sized (get_or rows i [])) (length rows)) → RowsSized rows
-rows-sized rows t i h = row_sized (get_or rows i []) (below_all (λ i. row_sized (get_or rows i [])) (length rows) i t h)
+pub rows-sized : (rows : List (List ℤ)) → T (all_below (λ i. is_row_sized (get_or rows i [])) (length rows)) → RowsSized rows
+rows-sized rows t i h = row-sized (get_or rows i []) (below_all (λ i. is_row_sized (get_or rows i [])) (length rows) i t h)

@@ -16,11 +16,7 @@ use Rattle.arguments.specs.Argument.{arguments_by}
 use Rattle.arguments.specs.PrintedArguments.{rows, further_rows, arguments_of, full_arguments_of}
 use Rattle.arguments.specs.Sizes.{IsFullArguments}
 use Rattle.arguments.proofs.AllReduced.{all-reduced, are-full-arguments}
-use Rattle.arguments.proofs.full_arguments_of.Statement.{statement}
-use Rattle.arguments.proofs.full_arguments_of.Tie as tie
-
-further-arguments-of-requires : tie.Need-further-arguments-of-requires
-further-arguments-of-requires c κs = c.before.requires.1
+use Rattle.arguments.proofs.full_arguments_of.Goals as goal
 
 -- an angle as a word of 64 bits
 abbrev word : List ℤ → ℕ → ℤ
@@ -39,20 +35,8 @@ joined_is : (e : Epoch) → joined (arguments_by rows e) (arguments_by further_r
 unfolding arguments_of full_arguments_of rows further_rows
 joined_is e = simp (word-is (arguments_by rows e) (all-reduced rows e), word-is (arguments_by further_rows e) (all-reduced further_rows e)) refl
 
-returns : tie.Need-returns
+pub returns : goal.returns
 unfolding arguments_of
 returns c =
-    let f = c.before.before.before.before.before.before.before.before.before.before.before.before.before.before.before in
-    let s = f.before.before in
-    let is = ap₂ joined s.requires.0 f.further-arguments-of.ensures ∙ joined_is s.args.e in
-    (is, subst⁻¹ IsFullArguments is (are-full-arguments s.args.e))
-
-pub full-arguments-of-spec : {M : Type 1} → statement M
-full-arguments-of-spec =
-    tie.close
-    (tie.spec
-    further-arguments-of-requires
-    (λ c. search rules) (λ c. search rules) (λ c. search rules) (λ c. search rules) (λ c. search rules) (λ c. search rules)
-    (λ c. search rules) (λ c. search rules) (λ c. search rules) (λ c. search rules) (λ c. search rules) (λ c. search rules)
-    (λ c. search rules) (λ c. search rules) (λ c. search rules)
-    returns)
+    let is = ap₂ joined c.requires.0 c.further_arguments_of-b.ensures ∙ joined_is c.args.e in
+    (is, subst⁻¹ IsFullArguments is (are-full-arguments c.args.e))
