@@ -11,12 +11,11 @@ use lib.IntN.{ℤ}
 use Rattle.card.specs.Fields.{is_field, field_of, Full, fresh_card}
 use Rattle.card.specs.declared.Field.{Field}
 use Rattle.card.specs.declared.Field.TheVariants.{Empty, Confirmed}
-use Rattle.card.specs.declared.Latest.{Latest}
 use Rattle.card.specs.declared.Latest.TheVariants.{NothingToUndo, Before}
 use Rattle.card.specs.declared.Card.{Card}
 use Rattle.card.proofs.FieldNumbers.{no_field}
 use Rattle.card.proofs.Clash.{clash}
-use Rattle.card.specs.History.{Call, undo, after, after_all, is_undone, leaves_undo, NothingStands, HeardAmong, Story, stood_confirmed, stood_read, stood_heard, was_heard, PutBackAmong}
+use Rattle.card.specs.History.{Call, after, after_all, is_undone, leaves_undo, NothingStands, HeardAmong, Story, stood_confirmed, stood_read, stood_heard, was_heard, PutBackAmong}
 use Rattle.card.proofs.OneCall.{Passes, stays, gone, Effect, heard, read_out, confirmed, undone, kept, effect, after-full}
 use Rattle.card.proofs.Histories.{up-to-undo, nothing-between, no-calls, one-call}
 use Rattle.card.proofs.Stories.{longer, told-heard, told-read, told-confirmed, up_to_undo, in_two, card-there, put-back}

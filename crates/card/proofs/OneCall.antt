@@ -21,7 +21,7 @@ use Rattle.card.specs.declared.Card.{Card}
 use Rattle.card.proofs.FieldNumbers.{field-number, index_below, field_found, no_field}
 use Rattle.card.proofs.CallAnswers.{confirm-no-field, confirm-not-read, confirm-accepted, read-no-field, read-empty, read-no-room, read-written, undo-nothing, undo-no-field, undo-accepted}
 use Rattle.card.proofs.Hearings.{heard-field, hear-heard, hear-unheard}
-use Rattle.card.proofs.States.{is_read}
+use Rattle.card.proofs.States.{is-read}
 use Rattle.card.proofs.Clash.{clash}
 use Rattle.card.specs.History.{Call, hear, read, confirm, undo, after, refusal, is_heard, settles, is_undone}
 
@@ -100,7 +100,7 @@ module _ (c : Card) (g : ℤ) where
       let h = confirm-accepted c g e k in
       let r = sym (ap (λ a. a.refusal) h) in
       puts g (Confirmed (number_in (field_of c g))) c.latest e r (sym (ap (λ a. a.card) h))
-      (confirmed (number_in (field_of c g)) refl r (is_read (field_of c g) k) refl (confirm-leaves g).1)
+      (confirmed (number_in (field_of c g)) refl r (is-read (field_of c g) k) refl (confirm-leaves g).1)
       (λ f n. confirm-leaves f)
 
   module _ (buffer : List ℕ) (place : ℕ) where

@@ -8,7 +8,9 @@ use native.Mathlib.Omega.{arith}
 use lib.IntN.{ℤ, pos}
 use lib.ListN.{set, replicate}
 use lib.Seq.{sets}
+use mir.Syntax.{w64}
 use mir.Facts.{to_z-of_z}
+use mir.Val.{SFits}
 use borrow.Author.Rules.{rules}
 use Rattle.card.specs.Fields.{is_confirmed, number_in, field_count, field_at}
 use Rattle.card.specs.Confirmed.{fields_from, every_confirmed, ConfirmedValues, given, withheld, confirmed_numbers}
@@ -16,8 +18,7 @@ use Rattle.card.specs.declared.Field.{Field}
 use Rattle.card.specs.declared.Field.TheVariants.{Confirmed}
 use Rattle.card.specs.declared.Card.{Card}
 use Rattle.card.proofs.States.{not-confirmed}
-use Rattle.card.proofs.confirmed_numbers.Statement.{statement}
-use Rattle.card.proofs.confirmed_numbers.Tie as tie
+use Rattle.card.proofs.confirmed_numbers.Goals as goal
 
 -- the answer, with numbers gathered before index i and fields left from it on
 abbrev answer : List ℤ → ℕ → List Field → ConfirmedValues
@@ -49,54 +50,23 @@ module _ (c : Card) where
       unfolding every_confirmed
       next-not-confirmed e = rw (next-left, e)
 
-abbrev invariant-loop : tie.invariant-loop
-invariant-loop card numbers₀ i₀ numbers i = answer numbers i (left card i) ≡ confirmed_numbers card
+pub loop-i-init : goal.loop-i-init
+loop-i-init c = none-gathered c.args.card
 
-abbrev decreases-loop : tie.decreases-loop
-decreases-loop card numbers₀ i₀ numbers i = field_count - i
-
-loop-holds : tie.Need-loop-init invariant-loop decreases-loop
-loop-holds c = none-gathered c.args.card
-
-field-at-requires : tie.Need-field-at-requires invariant-loop decreases-loop
-field-at-requires c κs = search rules
-
-enum-known-number : tie.Need-enum-known-number invariant-loop decreases-loop
-enum-known-number c = search rules
-
-returns : tie.Need-returns invariant-loop decreases-loop
-returns c =
-    let f = c.before in
-    let l = f.before.before.loop in
+pub returns-in_default : goal.returns-in_default
+returns-in_default c =
+    let l = c.loop-i in
     next-not-confirmed _ l.numbers l.i (omega arith)
-    (ap is_confirmed (sym f.field_at.ensures) ∙ not-confirmed f.field_at.result c.match.keys2)
+    (ap is_confirmed (sym c.field_at.ensures) ∙ not-confirmed c.field_at.result c.in_default.not-Confirmed)
     ∙ l.invariant
 
-mul-numbers : tie.Need-overflow-mul-numbers invariant-loop decreases-loop
-mul-numbers c = search rules
-
-array-set-from-numbers : tie.Need-array-set-from-numbers invariant-loop decreases-loop
-array-set-from-numbers c = search rules
-
-add-i : tie.Need-overflow-add-i invariant-loop decreases-loop
-add-i c = search rules
-
-loop-less : tie.Need-loop-smaller invariant-loop decreases-loop
-loop-less c = search rules
-
-loop-again : tie.Need-loop-preserved invariant-loop decreases-loop
-loop-again c =
-    let n = c.before in
-    let f = n.before.before in
-    let l = f.before.before.loop in
+pub loop-i-preserved : goal.loop-i-preserved
+loop-i-preserved c =
+    let l = c.loop-i in
+    let fits : SFits w64 c.in-Confirmed.number = search rules in
     next-confirmed _ l.numbers l.i (omega arith)
-    (sym f.field_at.ensures ∙ n.number.given.1 ∙ ap Confirmed (sym (to_z-of_z (search rules))))
+    (sym c.field_at.ensures ∙ c.in-Confirmed.is ∙ ap Confirmed (sym (to_z-of_z fits)))
     ∙ l.invariant
 
-returns-2 : tie.Need-returns-2 invariant-loop decreases-loop
-returns-2 c = let l = c.before.loop in all-gathered _ l.numbers l.i (omega arith) ∙ l.invariant
-
-pub confirmed-numbers-spec : {M : Type 1} → statement M
-confirmed-numbers-spec = tie.close
-    (tie.spec invariant-loop decreases-loop loop-holds field-at-requires enum-known-number returns mul-numbers array-set-from-numbers add-i loop-less loop-again
-    returns-2)
+pub returns : goal.returns
+returns c = let l = c.loop-i in all-gathered _ l.numbers l.i (omega arith) ∙ l.invariant
