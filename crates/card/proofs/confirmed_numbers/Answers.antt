@@ -1,31 +1,22 @@
--- In each round of the loop, what is gathered and the fields that are left give the answer.
 use mathlib.Core.Path.{◌≡◌, refl, sym, ap, ◌∙◌}
-use mathlib.Core.Bool.{false, cond}
-use mathlib.Core.List.{List, ◌∷◌, map}
+use mathlib.Core.Bool.{false}
+use mathlib.Core.List.{List, ◌∷◌}
 use Prim.Native.Nat.{ℕ, suc, ◌+◌, ◌-◌, ◌<◌, ◌≤◌}
 use native.Mathlib.Numerals.{add-one}
 use native.Mathlib.Omega.{arith}
 use lib.IntN.{ℤ, pos}
 use lib.ListN.{set, replicate}
-use lib.Seq.{sets}
 use mir.Syntax.{w64}
 use mir.Facts.{to_z-of_z}
 use mir.Val.{SFits}
 use borrow.Author.Rules.{rules}
-use Rattle.card.specs.Fields.{is_confirmed, number_in, field_count, field_at}
-use Rattle.card.specs.Confirmed.{fields_from, every_confirmed, ConfirmedValues, given, withheld, confirmed_numbers}
-use Rattle.card.specs.declared.Field.{Field}
+use Rattle.card.specs.Fields.{is_confirmed, field_count, field_at}
+use Rattle.card.specs.Confirmed.{fields_from, every_confirmed, given, withheld, confirmed_numbers}
 use Rattle.card.specs.declared.Field.TheVariants.{Confirmed}
 use Rattle.card.specs.declared.Card.{Card}
 use Rattle.card.proofs.States.{not-confirmed}
+use Rattle.card.proofs.confirmed_numbers.Invariants.{answer, left}
 use Rattle.card.proofs.confirmed_numbers.Goals as goal
-
--- the answer, with numbers gathered before index i and fields left from it on
-abbrev answer : List ℤ → ℕ → List Field → ConfirmedValues
-answer numbers i fields = cond (every_confirmed fields) (given (sets numbers i (map number_in fields))) (withheld 1)
-
-abbrev left : Card → ℕ → List Field
-left c i = fields_from c i (field_count - i)
 
 module _ (c : Card) where
   none-gathered : answer (replicate field_count (pos 0)) 0 (left c 0) ≡ confirmed_numbers c

@@ -12,10 +12,10 @@ use Rattle.card.specs.declared.Card.{Card}
 use Rattle.card.proofs.confirmed_numbers.Given as goal
 
 -- the answer, with numbers gathered before index i and fields left from it on
-abbrev answer : List ℤ → ℕ → List Field → ConfirmedValues
+abbrev pub answer : List ℤ → ℕ → List Field → ConfirmedValues
 answer numbers i fields = cond (every_confirmed fields) (given (sets numbers i (map number_in fields))) (withheld 1)
 
-abbrev left : Card → ℕ → List Field
+abbrev pub left : Card → ℕ → List Field
 left c i = fields_from c i (field_count - i)
 
 abbrev pub invariant-loop-i : goal.invariant-loop-i

@@ -37,7 +37,7 @@ returns-then-not-is_held c =
     record {
       result_value = c.read_answer-then-not-is_held.ensures ∙ r.0;
       buf_after = r.1;
-      field_bound = unheld-small (field_of a.card a.field) n
+      field_bound = unheld-small (field_of a.card a.field) n;
     }
 
 pub returns-in_default : goal.returns-in_default
@@ -55,7 +55,7 @@ returns-in_default c =
     record {
       result_value = c.read_answer-in_default.ensures ∙ r.0;
       buf_after = r.1;
-      field_bound = subst (λ z. nat_abs z < 2 ^ 64) number (abs_word c.number_in.result fits).fits
+      field_bound = subst (λ z. nat_abs z < 2 ^ 64) number (abs_word c.number_in.result fits).fits;
     }
 
 pub returns : goal.returns
@@ -77,5 +77,5 @@ returns c =
           ∙ ap₂ (put a.card) (index-is c.ranges.field c.slot_index-i.ensures.0) (c.read_state.ensures ∙ ap read_state state))
           ∙ r.0;
       buf_after = r.1;
-      field_bound = subst (λ z. nat_abs z < 2 ^ 64) number (abs_word c.number_in.result fits).fits
+      field_bound = subst (λ z. nat_abs z < 2 ^ 64) number (abs_word c.number_in.result fits).fits;
     }
