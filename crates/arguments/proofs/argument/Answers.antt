@@ -19,7 +19,7 @@ use Rattle.exact.proofs.Integers.{abs-*-lt}
 use Rattle.exact.proofs.Machine.{ok-fits, fits_lt, fits_le}
 use Rattle.secular.specs.FlooredPolynomial.{polynomial, value}
 use Rattle.secular.specs.Sizes as Secular
-use Rattle.epoch.proofs.Sizes.{n-size, n-natural, q-size, n-fits, q-fits}
+use Rattle.epoch.proofs.Sizes.{n-size, q-size, n-fits, q-fits}
 use Rattle.arguments.specs.Argument.{argument}
 use Rattle.arguments.specs.Sizes.{RowSized}
 use Rattle.arguments.proofs.argument.Goals.{After-value}

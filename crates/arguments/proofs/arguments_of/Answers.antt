@@ -1,12 +1,8 @@
 -- The stored rows are the printed ones in whole units, which antt computes.
-use mathlib.Core.Path.{refl, subst⁻¹}
-use mathlib.Core.List.{map}
-use borrow.Author.Rules.{rules}
+use mathlib.Core.Path.{subst⁻¹}
 use Rattle.exact.specs.Division.{floor_div, nearest_div}
-use Rattle.exact.specs.Reduction.{rest}
 use Rattle.arguments.specs.PrintedArguments.{rows, arguments_of}
 use Rattle.arguments.specs.Sizes.{IsArguments}
-use Rattle.arguments.proofs.Sizes.{stored, rows-sized}
 use Rattle.arguments.proofs.AllReduced.{are-arguments}
 use Rattle.arguments.proofs.arguments_of.Goals as goal
 

@@ -6,7 +6,6 @@ use lib.IntN.{ℤ}
 use mir.Facts.{to_z-of_z}
 use mir.Syntax.{w64}
 use mir.Val.{of_z, to_z}
-use borrow.Author.Rules.{rules}
 use Rattle.exact.specs.Reduction.{turn}
 use Rattle.exact.specs.Nth.{nth}
 use Rattle.exact.specs.Sizes.{AllReduced}
