@@ -29,6 +29,33 @@ quietly() {
     }
 }
 
+# in_crate NAME COMMAND..: runs a command in a crate's folder, with nothing to read
+in_crate() (
+    cd "crates/$1" || exit 1
+    shift
+    "$@" </dev/null
+)
+
+# build_program NAME..: proves and builds programs, each as target/bin/NAME. rt tells how far it is, and last runs the program on nothing.
+build_program() {
+    mkdir -p target/bin || return 1
+    for program in "$@"; do
+        in_crate "$program" rt run && cp -fp "crates/$program/out/$program" target/bin || return 1
+    done
+}
+
+# build_library NAME: proves and builds a static library as target/staticlib/libNAME.a
+build_library() {
+    mkdir -p target/staticlib && in_crate "$1" rt lib && cp -fp "crates/$1/out/lib$1.a" target/staticlib
+}
+
+# copy_to FOLDER PATH..: copies files and folders into a folder, but for what is built in them
+copy_to() {
+    folder_of_copy=$1
+    shift
+    tar -cf - --exclude=out --exclude=target "$@" | tar -xf - -C "$folder_of_copy"
+}
+
 # build_second: builds the second program as target/cargo/release/second
 build_second() {
     needs cargo cargo
