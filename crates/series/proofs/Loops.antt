@@ -1,16 +1,15 @@
--- A loop over a list of terms, of any kind of row: in each round the sum so far, held as bits, and the terms that are left give the whole. So no sum
--- leaves 64 bits, whatever the order of the terms.
+-- A loop over a list of terms, of any kind of row: in each round the sum so far and the terms that are left give the whole. So no sum leaves 64 bits,
+-- whatever the order of the terms.
 use mathlib.Core.Path.{◌≡◌, sym, ap, subst, ◌∙◌}
 use mathlib.Core.List.{List, [], ◌∷◌, ◌++◌, map}
 use Prim.Native.Nat.{ℕ, suc, ◌+◌, ◌*◌, ◌≤◌, ◌<◌}
 use native.Mathlib.Nat.{le_trans}
 use native.Mathlib.Omega.{arith}
-use lib.IntN.{ℤ, nat_abs, ◌+ℤ◌}
+use lib.IntN.{ℤ, pos, nat_abs, ◌+ℤ◌}
 use lib.ListN.{length, get_or, take, drop, drop_of_length-le}
 use lib.Seq.{drop-cons, drop-drop}
-use mir.Facts.{to_z-of_z}
 use mir.Syntax.{w64}
-use mir.Val.{SFits, of_z, to_z}
+use mir.Val.{SFits}
 use Rattle.exact.proofs.Differences.{split, zs}
 use Rattle.secular.specs.Sizes.{most_millionths}
 use Rattle.sine_table.specs.Table.{R}
@@ -28,41 +27,41 @@ module _ (arguments : List ℤ) (q : ℤ) where
   abbrev sum_of : List Term → ℤ
   sum_of terms = total Sin arguments q terms
 
-  abbrev pub Left : List Term → List Term → ℕ → Type 0
-  Left whole left sum = (to_z w64 sum +ℤ sum_of left ≡ sum_of whole) × (weights left ≤ heaviest)
+  abbrev pub Left : List Term → List Term → ℤ → Type 0
+  Left whole left sum = (sum +ℤ sum_of left ≡ sum_of whole) × (weights left ≤ heaviest)
 
-  pub left-all : (whole : List Term) → weights whole ≤ heaviest → Left whole whole 0
+  pub left-all : (whole : List Term) → weights whole ≤ heaviest → Left whole whole (pos 0)
   left-all whole light = (zero_left (sum_of whole), light)
 
-  pub left-none : (whole : List Term) (sum : ℕ) → Left whole [] sum → to_z w64 sum ≡ sum_of whole
+  pub left-none : (whole : List Term) (sum : ℤ) → Left whole [] sum → sum ≡ sum_of whole
   unfolding total
-  left-none whole sum l = zero_right (to_z w64 sum) ∙ l.0
+  left-none whole sum l = zero_right (sum) ∙ l.0
 
   -- a round adds p, the sum of some terms, and leaves the others
-  module _ (whole some rest : List Term) (sum : ℕ) (p : ℤ) (l : Left whole (some ++ rest) sum) (is : p ≡ sum_of some) where
-    next : to_z w64 sum +ℤ p +ℤ sum_of rest ≡ sum_of whole
+  module _ (whole some rest : List Term) (sum p : ℤ) (l : Left whole (some ++ rest) sum) (is : p ≡ sum_of some) where
+    next : sum +ℤ p +ℤ sum_of rest ≡ sum_of whole
     next =
-        sym (shift (to_z w64 sum) p (sum_of rest))
-        ∙ ap (λ (z : ℤ). to_z w64 sum +ℤ z) (ap (λ (z : ℤ). z +ℤ sum_of rest) is ∙ total-append Sin arguments q some rest)
+        sym (shift (sum) p (sum_of rest))
+        ∙ ap (λ (z : ℤ). sum +ℤ z) (ap (λ (z : ℤ). z +ℤ sum_of rest) is ∙ total-append Sin arguments q some rest)
         ∙ l.0
 
-    pub left-fits : nat_abs q ≤ most_millionths → weights whole ≤ heaviest → SFits w64 (to_z w64 sum +ℤ p)
+    pub left-fits : nat_abs q ≤ most_millionths → weights whole ≤ heaviest → SFits w64 (sum +ℤ p)
     left-fits h light =
-        go (to_z w64 sum +ℤ p) (sum_of rest) (sum_of whole) next
+        go (sum +ℤ p) (sum_of rest) (sum_of whole) next
         (le_trans (sum-le arguments q h rest) (omega (arith, (lights some rest l.1).1))) (le_trans (sum-le arguments q h whole) (omega arith))
       where
         go : (s r w : ℤ) → s +ℤ r ≡ w → nat_abs r ≤ R * heaviest → nat_abs w ≤ R * heaviest → SFits w64 s
         go s r w = rw (split s, split r, split w) (simp zs (omega arith))
 
-    pub left-next : SFits w64 (to_z w64 sum +ℤ p) → Left whole rest (of_z w64 (to_z w64 sum +ℤ p))
-    left-next f = (ap (λ (z : ℤ). z +ℤ sum_of rest) (to_z-of_z f) ∙ next, (lights some rest l.1).1)
+    pub left-next : Left whole rest (sum +ℤ p)
+    left-next = (next, (lights some rest l.1).1)
 
   -- ---- rows that stand for a term each, by any function g
   module _ (g : List ℤ → Term) (rows : List (List ℤ)) where
-    abbrev pub RowsLeft : ℕ → ℕ → Type 0
+    abbrev pub RowsLeft : ℕ → ℤ → Type 0
     RowsLeft i sum = Left (map g rows) (map g (drop i rows)) sum
 
-    module _ (i sum : ℕ) (p : ℤ) (h : i < length rows) (l : RowsLeft i sum) (is : p ≡ value Sin arguments q (g (get_or rows i []))) where
+    module _ (i : ℕ) (sum p : ℤ) (h : i < length rows) (l : RowsLeft i sum) (is : p ≡ value Sin arguments q (g (get_or rows i []))) where
       one : p ≡ sum_of (g (get_or rows i []) ∷ [])
       unfolding total
       one = is ∙ zero_right (value Sin arguments q (g (get_or rows i [])))
@@ -70,13 +69,13 @@ module _ (arguments : List ℤ) (q : ℤ) where
       split_off : Left (map g rows) ((g (get_or rows i []) ∷ []) ++ map g (drop (suc i) rows)) sum
       split_off = subst (λ (rs : List (List ℤ)). Left (map g rows) (map g rs) sum) (drop-cons rows i [] h) l
 
-      pub row_fits : nat_abs q ≤ most_millionths → weights (map g rows) ≤ heaviest → SFits w64 (to_z w64 sum +ℤ p)
+      pub row_fits : nat_abs q ≤ most_millionths → weights (map g rows) ≤ heaviest → SFits w64 (sum +ℤ p)
       row_fits = left-fits (map g rows) (g (get_or rows i []) ∷ []) (map g (drop (suc i) rows)) sum p split_off one
 
-      pub row_next : SFits w64 (to_z w64 sum +ℤ p) → RowsLeft (suc i) (of_z w64 (to_z w64 sum +ℤ p))
+      pub row_next : RowsLeft (suc i) (sum +ℤ p)
       row_next = left-next (map g rows) (g (get_or rows i []) ∷ []) (map g (drop (suc i) rows)) sum p split_off one
 
-    pub rows-sum : (i sum : ℕ) → length rows ≤ i → RowsLeft i sum → to_z w64 sum ≡ sum_of (map g rows)
+    pub rows-sum : (i : ℕ) (sum : ℤ) → length rows ≤ i → RowsLeft i sum → sum ≡ sum_of (map g rows)
     rows-sum i sum h l =
         left-none (map g rows) sum (subst (λ (rs : List (List ℤ)). Left (map g rows) (map g rs) sum) (drop_of_length-le rows {i = i} h) l)
 

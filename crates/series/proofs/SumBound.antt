@@ -3,7 +3,7 @@
 -- another table, changes a figure and no proof.
 use mathlib.Core.Path.{◌≡◌}
 use mathlib.Core.List.{List, [], ◌∷◌}
-use Prim.Native.Nat.{ℕ, ◌+◌, ◌*◌, ◌≤◌, ◌<◌}
+use Prim.Native.Nat.{ℕ, ◌+◌, ◌*◌, ◌≤◌}
 use native.Mathlib.Nat.{le_refl, le_trans, mul-le-mul_right, mul-pos, le_of_lt}
 use native.Mathlib.Omega.{arith}
 use lib.Dec.{lit<}

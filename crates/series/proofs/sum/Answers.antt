@@ -8,7 +8,6 @@ use lib.IntN.{ℤ, nat_abs, ◌+ℤ◌}
 use mir.Facts.{to_z-of_z}
 use mir.Syntax.{w64}
 use mir.Val.{SFits}
-use borrow.Author.Rules.{rules}
 use Rattle.exact.proofs.Differences.{split, zs}
 use Rattle.exact.proofs.Machine.{ok-fits, fits_le}
 use Rattle.sine_table.specs.Table.{R}
@@ -18,21 +17,21 @@ use Rattle.series.specs.Sum.{total, weights}
 use Rattle.series.specs.Rows.{varying_terms, steady_terms}
 use Rattle.series.specs.Sizes.{heaviest}
 use Rattle.series.proofs.Sums.{total-append, weights-append}
-use Rattle.series.proofs.sum.Statement.{statement}
-use Rattle.series.proofs.sum.Tie as tie
+use Rattle.series.proofs.sum.Goals.{After-steady_sum, Start}
+use Rattle.series.proofs.sum.Goals as goal
 
 two-le : (a b : ℤ) (m n : ℕ) → nat_abs a ≤ R * m → nat_abs b ≤ R * n → nat_abs (a +ℤ b) ≤ R * (m + n)
 two-le a b m n = rw (split a, split b) (simp zs (omega arith))
 
-module _ (c : tie.After-steady-sum) where
-  abbrev start : tie.Start
+module _ (c : After-steady_sum) where
+  abbrev start : Start
   start = c.before.before
 
   abbrev a : ℤ
-  a = c.before.varying-sum.result
+  a = c.before.varying_sum.result
 
   abbrev b : ℤ
-  b = c.steady-sum.result
+  b = c.steady_sum.result
 
   abbrev varying : List Term
   varying = varying_terms start.args.varying.now
@@ -41,33 +40,21 @@ module _ (c : tie.After-steady-sum) where
   steady = steady_terms start.args.groups.now start.args.rows.now
 
   a-is : (a ≡ total Sin start.args.arguments.now start.args.q varying) × (nat_abs a ≤ R * weights varying)
-  a-is = simp (to_z-of_z, start.fits.q) at c.before.varying-sum.ensures
+  a-is = simp (to_z-of_z, start.ranges.q) at c.before.varying_sum.ensures
 
   sum_is : a +ℤ b ≡ total Sin start.args.arguments.now start.args.q (varying ++ steady)
-  sum_is = ap₂ ◌+ℤ◌ a-is.0 (c.steady-sum.ensures.0 start.args.q) ∙ total-append Sin start.args.arguments.now start.args.q varying steady
+  sum_is = ap₂ ◌+ℤ◌ a-is.0 (c.steady_sum.ensures.0 start.args.q) ∙ total-append Sin start.args.arguments.now start.args.q varying steady
 
   sum-le : nat_abs (a +ℤ b) ≤ R * weights (varying ++ steady)
-  sum-le = rw (weights-append varying steady) (two-le a b (weights varying) (weights steady) a-is.1 c.steady-sum.ensures.1)
+  sum-le = rw (weights-append varying steady) (two-le a b (weights varying) (weights steady) a-is.1 c.steady_sum.ensures.1)
 
   fit : SFits w64 a × SFits w64 b × SFits w64 (a +ℤ b)
   fit = (
-    ok-fits a c.before.varying-sum.type-inv,
-    ok-fits b c.steady-sum.type-inv,
+    ok-fits a c.before.varying_sum.type_inv,
+    ok-fits b c.steady_sum.type_inv,
     fits_le (R * (heaviest + heaviest)) (a +ℤ b)
-        (le_trans sum-le (omega (arith, weights-append varying steady, start.pre.0.light, start.pre.1.light))) refl,
+        (le_trans sum-le (omega (arith, weights-append varying steady, start.requires.0.light, start.requires.1.light))) refl,
   )
 
-varying-sum-requires : tie.Need-varying-sum-requires
-varying-sum-requires c κs = simp (to_z-of_z, c.ranges.q) c.requires.0
-
-steady-sum-requires : tie.Need-steady-sum-requires
-steady-sum-requires c κs = search rules
-
-add-result : tie.Need-overflow-add-result
-add-result c = simp (to_z-of_z, (fit c).0, (fit c).1) (fit c).2
-
-returns : tie.Need-returns
+pub returns : goal.returns
 returns c = simp (to_z-of_z, (fit c).0, (fit c).1, (fit c).2) (sum_is c, sum-le c)
-
-pub sum-spec : {M : Type 1} → statement M
-sum-spec = tie.close (tie.spec varying-sum-requires steady-sum-requires add-result returns)

@@ -1,0 +1,72 @@
+use mathlib.Core.Path.{◌≡◌, refl, ◌∙◌}
+use mathlib.Core.List.{List, []}
+use Prim.Native.Nat.{ℕ, suc, ◌<◌}
+use native.Mathlib.Numerals.{add-one}
+use native.Mathlib.Omega.{arith}
+use lib.IntN.{ℤ, pos, ◌+ℤ◌}
+use lib.ListN.{length, get_or}
+use mir.Facts.{to_z-of_z}
+use mir.Syntax.{w64}
+use mir.Val.{SFits, to_z}
+use Rattle.exact.specs.Reduction.{turn}
+use Rattle.exact.specs.Sizes.{AllReduced}
+use Rattle.exact.proofs.Machine.{ok-fits, fits_lt}
+use Rattle.sine.specs.Sine.{Sin}
+use Rattle.series.specs.Term.{Term, value}
+use Rattle.series.specs.Rows.{steady_term}
+use Rattle.series.proofs.Rows.{steady-value}
+use Rattle.series.proofs.Loops.{RowsLeft, row_fits, row_next, rows-sum}
+use Rattle.series.proofs.group_sum.Goals.{After-steady_product-sum}
+use Rattle.series.proofs.group_sum.Goals as goal
+
+argument-fits : (arguments : List ℤ) → AllReduced arguments → (i : ℕ) → SFits w64 (get_or arguments i (pos 0))
+argument-fits arguments h i = fits_lt turn (get_or arguments i (pos 0)) (h i) refl
+
+-- ---- a round
+module _ (c : After-steady_product-sum) where
+  abbrev arguments : List ℤ
+  arguments = c.args.arguments.now
+
+  abbrev rows : List (List ℤ)
+  rows = c.args.rows.now
+
+  abbrev term : List ℤ → Term
+  term = steady_term c.args.i c.args.j c.args.k
+
+  abbrev p : ℤ
+  p = c.steady_product-sum.result
+
+  abbrev n : ℕ
+  n = c.loop-n.n
+
+  abbrev sum : ℤ
+  sum = to_z w64 c.loop-n.sum-bits
+
+  inside : n < length rows
+  inside = omega arith
+
+  product_is : (q : ℤ) → p ≡ value Sin arguments q (term (get_or rows n []))
+  product_is q =
+      let f = argument-fits arguments c.requires.angles in
+      simp (to_z-of_z, f c.args.i, f c.args.j, f c.args.k) at c.steady_product-sum.ensures
+      ∙ steady-value arguments Sin q c.args.i c.args.j c.args.k (get_or rows n [])
+
+  round-fits : SFits w64 (sum +ℤ p)
+  round-fits = row_fits arguments (pos 0) term rows n sum p inside (c.loop-n.invariant (pos 0)) (product_is (pos 0)) (omega arith) c.requires.light
+
+  next : (q : ℤ) → RowsLeft arguments q term rows (suc n) (sum +ℤ p)
+  next q = row_next arguments q term rows n sum p inside (c.loop-n.invariant q) (product_is q)
+
+  p-fits : SFits w64 p
+  p-fits = ok-fits p c.steady_product-sum.type_inv
+
+pub overflow_add-sum : goal.overflow_add-sum
+overflow_add-sum c = simp (to_z-of_z, p-fits c) (round-fits c)
+
+pub loop-n-preserved : goal.loop-n-preserved
+loop-n-preserved c q = simp (to_z-of_z, p-fits c, round-fits c, add-one) (next c q)
+
+pub returns : goal.returns
+returns c q =
+    rows-sum c.args.arguments.now q (steady_term c.args.i c.args.j c.args.k) c.args.rows.now c.loop-n.n (to_z w64 c.loop-n.sum-bits) (omega arith)
+    (c.loop-n.invariant q)

@@ -1,0 +1,7 @@
+-- In each round the sum so far and the rows that are left give the whole.
+use Rattle.series.specs.Rows.{varying_term}
+use Rattle.series.proofs.Loops.{RowsLeft}
+use Rattle.series.proofs.varying_sum.Given as goal
+
+abbrev pub invariant-loop-i : goal.invariant-loop-i
+invariant-loop-i l = RowsLeft l.arguments l.q varying_term l.rows l.i l.sum
