@@ -1,4 +1,4 @@
-/* The field book for C: the functions of the static library libcapi.a (`rt staticlib capi`).
+/* The field book for C: the functions of the static library libcapi.a (`rt lib` in crates/capi).
    Each is proved, and docs/PROMISES.md says what that means. They keep nothing between two calls, not even a
    card, whose words the caller keeps; they take any numbers, and may be called by several threads at once. Of
    the caller's memory they touch what is lent to them and no more. The choice reads its two lists, many shots

@@ -1,4 +1,4 @@
-//! Links `libcapi.a`, which `rt staticlib capi` writes; FIELDBOOK_LIBRARY names another folder.
+//! Links `libcapi.a`, which `capi/test` puts into target/staticlib (`rt lib` in crates/capi makes it); FIELDBOOK_LIBRARY names another folder.
 
 use std::env;
 
