@@ -4,6 +4,6 @@
 
 use replies::{Protocol, Question};
 
-fn main() {
-    stream::run(Protocol::Batch(Question::Editions));
+fn main(rt: HostRuntime) {
+    stream::run(&rt, Protocol::Batch(Question::Editions));
 }

@@ -2,27 +2,34 @@
 use mathlib.Core.Path.{◌≡◌, refl, ap, ◌∙◌}
 use mathlib.Core.Bool.{Bool, true, false, cond}
 use mathlib.Core.List.{List, [], ◌∷◌, ◌++◌}
-use Prim.Native.Nat.{ℕ, suc, ◌+◌, ◌<◌, ◌≤◌}
+use Prim.Native.Nat.{ℕ, suc, ◌+◌, ◌-◌, ◌<◌, ◌≤◌}
 use native.Mathlib.Omega.{arith}
 use native.Mathlib.Numerals.{add-one}
 use lib.Dec.{eqb, ltb}
 use lib.IntN.{ℤ}
-use lib.ListN.{length, take, drop, set}
+use lib.ListN.{length, take, drop, set, length-drop}
+use Rattle.std.specs.List.{slice_range}
 use lib.Seq.{take_all, take-suc-set, length-take-le}
 use borrow.Author.Tests.{lt-ltb, le-ltb}
 use Rattle.lines.specs.Numerals.{numeral_of, prefixed, words, row_length, numbers_behind}
 use Rattle.lines.specs.declared.Numeral.TheVariants.{Number, NoNumber}
-use Rattle.bytes.specs.Bytes.{slice, index_after, index_of}
+use Rattle.lines.specs.Bytes.{index_after, index_of}
 
 -- what stands from a place to the end
-pub slice-end : (a : ℕ) (l : List ℕ) → slice a (length l) l ≡ drop a l
-unfolding slice
-slice-end a l = ap (drop a) (take_all (length l) l (omega arith))
+pub slice-end : (a : ℕ) (l : List ℕ) → slice_range l a (length l) ≡ drop a l
+slice-end a l = let d = length-drop a l in take_all (length l - a) (drop a l) (omega arith)
+
+-- a search for a space found the end of what is left's first word
+module _ (s : List ℕ) (from k : ℕ) (found : k ≡ from + index_of 32 (slice_range s from (length s))) where
+  pub found-index : k ≡ from + index_of 32 (drop from s)
+  found-index = found ∙ ap (λ l. from + index_of 32 l) (slice-end from s)
+
+  pub word-found : (most : ℕ) → numeral_of most (take (k - from) (drop from s)) ≡ numeral_of most (take (index_of 32 (drop from s)) (drop from s))
+  word-found most = let f = found-index in let e : k - from ≡ index_of 32 (drop from s) = omega arith in ap (λ j. numeral_of most (take j (drop from s))) e
 
 -- the first word ends at the first space. (b: whether the first byte is a space)
 first_by : (b : Bool) (c k : ℕ) (l : List ℕ) (ws : List (List ℕ)) → ws ≡ take k l ∷ drop 1 ws
     → cond b ([] ∷ ws) (prefixed c ws) ≡ take (index_after b k) (c ∷ l) ∷ drop 1 (cond b ([] ∷ ws) (prefixed c ws))
-unfolding index_after
 first_by true c k l ws e = refl
 first_by false c k l [] e = absurd (let z = ap length e in omega arith)
 first_by false c k l (w ∷ ws) e = ap (prefixed c) e
@@ -39,7 +46,6 @@ same_rest c w ws r e = rw e
 rest-by : (b : Bool) (c k : ℕ) (l : List ℕ) → index_after b k < suc (length l) → words l ≡ take k l ∷ drop 1 (words l)
     → (k < length l → drop 1 (words l) ≡ words (drop (suc k) l))
     → drop 1 (cond b ([] ∷ words l) (prefixed c (words l))) ≡ words (drop (suc (index_after b k)) (c ∷ l))
-unfolding index_after
 rest-by true c k l h e f = refl
 rest-by false c k l h e f = same_rest c (take k l) (drop 1 (words l)) (words l) e ∙ f (omega arith)
 
@@ -51,7 +57,6 @@ more-words (c ∷ l) h = rest-by (eqb c 32) c (index_of 32 l) l h (first_word l)
 last-by : (b : Bool) (c k : ℕ) (l : List ℕ) → suc (length l) ≤ index_after b k → words l ≡ take k l ∷ drop 1 (words l)
     → (length l ≤ k → drop 1 (words l) ≡ [])
     → drop 1 (cond b ([] ∷ words l) (prefixed c (words l))) ≡ []
-unfolding index_after
 last-by true c k l h e f = absurd (omega arith)
 last-by false c k l h e f = same_rest c (take k l) (drop 1 (words l)) (words l) e ∙ f (omega arith)
 

@@ -1,4 +1,5 @@
 -- The definitions that the contracts and the theorems cite.
+pub mod Bytes
 pub mod Numerals
 pub mod Appending
 pub mod Sizes

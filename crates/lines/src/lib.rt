@@ -2,6 +2,8 @@
 #![tactic(auto)]
 
 ghost use Rattle.std.specs.Prelude.{◌≡◌, [], ◌+◌, ◌^◌, ◌≤◌, length};
+ghost use Rattle.std.specs.List.{slice_range};
+ghost use Rattle.lines.specs.Bytes.{index_of};
 ghost use Rattle.lines.specs.Numerals.{digits_of, numeral_of, row_length, numbers_of, listed};
 ghost use Rattle.lines.specs.Sizes.{Below};
 ghost use Rattle.lines.specs.Appending.{decimal_text, Appends};
@@ -31,6 +33,19 @@ pub enum Numeral {
 pub struct Row {
     pub numbers: [i64; ROW],
     pub count: usize,
+}
+
+// The index of the first `b` in `s` from `from` on and before `to`, or `to` where there is none.
+pub fn find(s: &[u8], from: usize, to: usize, b: u8) -> usize
+    requires in_order { from ≤ to }
+    requires in_bounds { to ≤ length s.now }
+    ensures first { result ≡ from + index_of b (slice_range s.now from to) }
+    ensures within { result ≤ to }
+{
+    match memchr::memchr(b, &s[from..to]) {
+        Some(k) => from + k,
+        None => to,
+    }
 }
 
 fn wide(b: u8) -> u64
@@ -106,7 +121,7 @@ pub fn numbers_of(s: &[u8], most: usize) -> Row
     let mut row = empty_row();
     let mut from = 0;
     while from <= s.len() {
-        let k = bytes::scan::find(s, from, s.len(), b' ');
+        let k = find(s, from, s.len(), b' ');
         let Numeral::Number(n) = numeral_of(&s[from..k], most) else {
             return empty_row();
         };
@@ -129,7 +144,8 @@ pub fn append_bytes(out: &mut [u8], place: usize, text: &[u8]) -> usize
     requires { place + length text.now ≤ length out.old }
     ensures { Appends out.old place text.now out.new result }
 {
-    let n = bytes::copy(text, &mut out[place..]);
+    let n = text.len();
+    out[place..place + n].copy_from_slice(text);
     place + n
 }
 

@@ -4,6 +4,6 @@
 
 use replies::{Protocol, Question};
 
-fn main() {
-    stream::run(Protocol::Batch(Question::Pointing));
+fn main(rt: HostRuntime) {
+    stream::run(&rt, Protocol::Batch(Question::Pointing));
 }

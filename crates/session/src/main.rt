@@ -3,6 +3,6 @@
 
 use replies::Protocol;
 
-fn main() {
-    stream::run(Protocol::Session);
+fn main(rt: HostRuntime) {
+    stream::run(&rt, Protocol::Session);
 }

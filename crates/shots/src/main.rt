@@ -3,6 +3,6 @@
 
 use replies::{Protocol, Question};
 
-fn main() {
-    stream::run(Protocol::Batch(Question::Shot));
+fn main(rt: HostRuntime) {
+    stream::run(&rt, Protocol::Batch(Question::Shot));
 }

@@ -11,9 +11,10 @@ ghost use Rattle.stream.specs.Sizes.{chunk_length, room};
 ghost use Rattle.stream.specs.Feeding.{kept_length, held, last_reply, Feeds, Reached, Completes};
 
 use card::Card;
-use libc::{STDIN_FILENO, STDOUT_FILENO};
 use replies::{Protocol, Question};
 use sine_table::SineTable;
+use std::io;
+use std::io::{Read, Write};
 
 // The bytes that are kept of an unfinished line: one more than the longest line has that is not malformed.
 const KEPT: usize = 260;
@@ -225,7 +226,7 @@ pub fn feed(t: &SineTable, protocol: Protocol, state: State, chunk: &[u8], out: 
     while from < chunk.len() {
         // the part is lent, and not the chunk with its bounds: that takes some 220 instructions less for a line of a batch
         let left = chunk.len() - from;
-        let stop = from + bytes::scan::find(&chunk[from..], 0, left, b'\n');
+        let stop = from + lines::find(&chunk[from..], 0, left, b'\n');
         if chunk.len() <= stop {
             let rest = keep_rest(s, &chunk[from..]);
             return Fed {
@@ -264,10 +265,11 @@ struct Round {
 
 // Reads once, and answers what came; nothing comes where the input has ended or cannot be read. No contract can say which bytes the system reads: here
 // they are what the call left at the front of `input`.
-fn feed_some(
+fn feed_some<R: Read>(
     t: &SineTable,
     protocol: Protocol,
     state: State,
+    reader: &mut R,
     input: &mut [u8],
     out: &mut [u8],
 ) -> Round
@@ -276,42 +278,51 @@ fn feed_some(
     ensures came_in_bounds { result.came ≤ length input.old }
     ensures end_in_bounds { result.fed.end ≤ length out.old }
 {
-    let got = libc::read(STDIN_FILENO, input);
-    let n = io::count(got, input);
+    let n = reader.read(input).unwrap_or(0);
     let fed = feed(t, protocol, state, &input[..n], out);
     Round { came: n, fed: fed }
 }
 
 // Reads to the input's end, and writes what each chunk made before it reads the next; a write that fails ends it too. No contract can say what the
-// system writes. A proved loop has to end, so this one counts its rounds down from a number that no run uses up.
-fn feed_input(t: &SineTable, protocol: Protocol, out: &mut [u8]) -> State
+// system writes. A proved loop has to end, so this one has a number of rounds that no run uses up.
+fn feed_input<R: Read, W: Write>(
+    t: &SineTable,
+    protocol: Protocol,
+    reader: &mut R,
+    writer: &mut W,
+    out: &mut [u8],
+) -> State
     requires { (chunk_length * room ≤ length out.old) × (t.now ≡ entries) }
     ensures { Reached protocol result }
 {
     let mut input = [0u8; CHUNK];
     let mut state = start();
-    let mut rounds = u64::MAX;
-    while rounds > 0 {
-        let round = feed_some(t, protocol, state, &mut input, out);
+    for _round in 0..u64::MAX {
+        let round = feed_some(t, protocol, state, reader, &mut input, out);
         let fed = round.fed;
         let end = fed.end;
         state = fed.state;
-        let written = io::write_all(STDOUT_FILENO, &out[..end]);
+        let written = writer.write_all(&out[..end]).is_ok();
         if round.came == 0 || !written {
             break;
         }
-        rounds -= 1;
     }
     state
 }
 
 // Reads to the input's end, and answers a last line that lacks its newline: what stands at the front of `out` then is yet to be written.
-fn run_with(t: &SineTable, protocol: Protocol, out: &mut [u8]) -> Fed
+fn run_with<R: Read, W: Write>(
+    t: &SineTable,
+    protocol: Protocol,
+    reader: &mut R,
+    writer: &mut W,
+    out: &mut [u8],
+) -> Fed
     requires { (chunk_length * room ≤ length out.old) × (t.now ≡ entries) }
     ensures completes { Completes protocol result.state (take result.end out.new) }
     ensures end_in_bounds { result.end ≤ length out.old }
 {
-    let last = feed_input(t, protocol, out);
+    let last = feed_input(t, protocol, reader, writer, out);
     let end = finish(t, protocol, last, out);
     Fed {
         state: last,
@@ -320,10 +331,12 @@ fn run_with(t: &SineTable, protocol: Protocol, out: &mut [u8]) -> Fed
 }
 
 // Runs a program: reads standard input to its end and writes the answers of each chunk as it comes in. The sine's table is named once, for the run.
-pub fn run(protocol: Protocol) {
+pub fn run(rt: &(impl Input + Print), protocol: Protocol) {
     let t = sine_table::table();
     let mut output = [0u8; OUTPUT];
-    let fed = run_with(&t, protocol, &mut output);
+    let mut reader = rt.reader();
+    let mut writer = io::writer(rt);
+    let fed = run_with(&t, protocol, &mut reader, &mut writer, &mut output);
     let end = fed.end;
-    io::write_all(STDOUT_FILENO, &output[..end]);
+    let _ = writer.write_all(&output[..end]);
 }

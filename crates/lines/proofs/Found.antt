@@ -1,0 +1,23 @@
+-- What a search for a byte answers: the index of the first such byte, or the length.
+use Rattle.std.proofs.Common.{◌≡◌, refl, ap, Bool, true, false, List, [], ◌∷◌, ℕ, zero, suc, ◌<◌, length, arith}
+use lib.Dec.{eqb}
+use Rattle.memchr.specs.Find.{Nowhere, Passes, is_byte}
+use Rattle.lines.specs.Bytes.{index_after, index_of}
+
+later : (q : Bool) (k n : ℕ) → (q ≡ true → ⊥) → k ≡ n → index_after q k ≡ suc n
+later true k n h e = absurd (h refl)
+later false k n h e = ap suc e
+
+module _ (b : ℕ) where
+  pub found-none : (l : List ℕ) → Nowhere (Passes (is_byte b) l) 0 (length l) → index_of b l ≡ length l
+  unfolding index_of
+  found-none [] h = refl
+  found-none (c ∷ l) h =
+      later (eqb c b) (index_of b l) (length l) (h 0 (omega arith) (omega arith)) (found-none l (λ k i j. h (suc k) (omega arith) (omega arith)))
+
+  pub found-some : (l : List ℕ) (k : ℕ) → k < length l → Passes (is_byte b) l k → Nowhere (Passes (is_byte b) l) 0 k → index_of b l ≡ k
+  unfolding index_of
+  found-some [] k h p n = absurd (omega arith)
+  found-some (c ∷ l) zero h p n = ap (λ (q : Bool). index_after q (index_of b l)) p
+  found-some (c ∷ l) (suc k) h p n =
+      later (eqb c b) (index_of b l) k (n 0 (omega arith) (omega arith)) (found-some l k (omega arith) p (λ j i m. n (suc j) (omega arith) (omega arith)))
