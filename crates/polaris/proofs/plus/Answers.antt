@@ -18,8 +18,7 @@ use Rattle.rotation.specs.Sizes.{reach, component_most, Bounded}
 use Rattle.rotation.proofs.Components.{three}
 use Rattle.rotation.proofs.Sizes.{components-le}
 use Rattle.polaris.specs.Apparent.{aberration_parts, plus}
-use Rattle.polaris.proofs.plus.Statement.{statement}
-use Rattle.polaris.proofs.plus.Tie as tie
+use Rattle.polaris.proofs.plus.Goals as goal
 
 -- ---- one component
 sum_fits : (x a : ℤ) → nat_abs x ≤ component_most → nat_abs a ≤ aberration_parts → SFits w64 (x +ℤ a)
@@ -44,55 +43,32 @@ module _ (d a : List ℤ) (l : length d ≡ 3) (k : length a ≡ 3) where
       part : (i : ℕ) → nat_abs (nth d i +ℤ nth a i) * nat_abs (nth d i +ℤ nth a i) ≤ nat_abs (nth d i) * nat_abs (nth d i) + 3 * 10 ^ 14
       part i = longer (nth d i) (nth a i) (components-le d h i) (b i)
 
-module _ (s : tie.Start) (i : ℕ) where
-  abbrev x : ℤ
-  x = nth s.args.t1 i
+  fits : squared_length d ≤ reach → Bounded aberration_parts a → (i : ℕ) → SFits w64 (nth d i) × SFits w64 (nth a i) × SFits w64 (nth d i +ℤ nth a i)
+  fits h b i =
+      let n = components-le d h i in
+      (fits_le component_most (nth d i) n refl, fits_le aberration_parts (nth a i) (b i) refl, sum_fits (nth d i) (nth a i) n (b i))
 
-  abbrev y : ℤ
-  y = nth s.args.t2 i
+pub overflow_add-result : goal.overflow_add-result
+overflow_add-result c =
+    let f = fits c.args.d c.args.a (search rules) (search rules) c.requires.0 c.requires.1 0 in
+    simp (to_z-of_z, f.0, f.1) f.2
 
-  fits : SFits w64 x × SFits w64 y × SFits w64 (x +ℤ y)
-  fits =
-      let h = components-le s.args.t1 s.pre.0 i in
-      (fits_le component_most x h refl, fits_le aberration_parts y (s.pre.1 i) refl, sum_fits x y h (s.pre.1 i))
+pub overflow_add-result-2 : goal.overflow_add-result-2
+overflow_add-result-2 c =
+    let f = fits c.args.d c.args.a (search rules) (search rules) c.requires.0 c.requires.1 1 in
+    simp (to_z-of_z, f.0, f.1) f.2
 
-array-copy-out-t7 : tie.Need-array-copy-out-t7
-array-copy-out-t7 c = search rules
+pub overflow_add-result-3 : goal.overflow_add-result-3
+overflow_add-result-3 c =
+    let f = fits c.args.d c.args.a (search rules) (search rules) c.requires.0 c.requires.1 2 in
+    simp (to_z-of_z, f.0, f.1) f.2
 
-array-copy-out-t10 : tie.Need-array-copy-out-t10
-array-copy-out-t10 c = search rules
-
-add-t11 : tie.Need-overflow-add-t11
-add-t11 c = let f = fits c.before.before 0 in simp (to_z-of_z, f.0, f.1) f.2
-
-array-copy-out-t14 : tie.Need-array-copy-out-t14
-array-copy-out-t14 c = search rules
-
-array-copy-out-t17 : tie.Need-array-copy-out-t17
-array-copy-out-t17 c = search rules
-
-add-t18 : tie.Need-overflow-add-t18
-add-t18 c = let f = fits c.before.before.before.before 1 in simp (to_z-of_z, f.0, f.1) f.2
-
-array-copy-out-t21 : tie.Need-array-copy-out-t21
-array-copy-out-t21 c = search rules
-
-array-copy-out-t24 : tie.Need-array-copy-out-t24
-array-copy-out-t24 c = search rules
-
-add-t25 : tie.Need-overflow-add-t25
-add-t25 c = let f = fits c.before.before.before.before.before.before 2 in simp (to_z-of_z, f.0, f.1) f.2
-
-returns : tie.Need-returns
+pub returns : goal.returns
 returns c =
-    let s = c.before.before.before.before.before.before in
-    let l : length s.args.t1 ≡ 3 = search rules in
-    let k : length s.args.t2 ≡ 3 = search rules in
-    let f = fits s in
+    let d = c.args.d in
+    let a = c.args.a in
+    let l : length d ≡ 3 = search rules in
+    let k : length a ≡ 3 = search rules in
+    let f = fits d a l k c.requires.0 c.requires.1 in
     simp (to_z-of_z, (f 0).0, (f 0).1, (f 0).2, (f 1).0, (f 1).1, (f 1).2, (f 2).0, (f 2).1, (f 2).2)
-    (rw (plus-is s.args.t1 s.args.t2 l k) (refl, plus-le s.args.t1 s.args.t2 l k s.requires.0 s.requires.1))
-
-pub plus-spec : {M : Type 1} → statement M
-plus-spec =
-    tie.close
-    (tie.spec array-copy-out-t7 array-copy-out-t10 add-t11 array-copy-out-t14 array-copy-out-t17 add-t18 array-copy-out-t21 array-copy-out-t24 add-t25 returns)
+    (rw (plus-is d a l k) (refl, plus-le d a l k c.requires.0 c.requires.1))

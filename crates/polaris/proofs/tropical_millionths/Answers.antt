@@ -13,8 +13,8 @@ use Rattle.exact.proofs.Machine.{ok-fits}
 use Rattle.epoch.specs.Sizes.{Span}
 use Rattle.epoch.proofs.Sizes.{n-fits}
 use Rattle.polaris.specs.Elements.{epoch1975, tropical_century, tropical_millionths}
-use Rattle.polaris.proofs.tropical_millionths.Statement.{statement}
-use Rattle.polaris.proofs.tropical_millionths.Tie as tie
+use Rattle.polaris.proofs.tropical_millionths.Goals.{After-floor_div, Start}
+use Rattle.polaris.proofs.tropical_millionths.Goals as goal
 
 abbrev million : ℤ → ℤ
 million n = pos 1_000_000 *ℤ (n -ℤ epoch1975)
@@ -22,31 +22,17 @@ million n = pos 1_000_000 *ℤ (n -ℤ epoch1975)
 since-1975 : (n : ℤ) → Span n → SFits w64 (n -ℤ epoch1975) × SFits w64 (million n) × (nat_abs (million n) ≤ 10 ^ 6 * tropical_century)
 since-1975 n = rw (split n) (simp zs (omega arith))
 
-module _ (s : tie.Start) where
+module _ (s : Start) where
   sizes : SFits w64 (s.args.e.n -ℤ epoch1975) × SFits w64 (million s.args.e.n) × (nat_abs (million s.args.e.n) ≤ 10 ^ 6 * tropical_century)
   sizes = since-1975 s.args.e.n s.requires.span
 
-sub-floor-div : tie.Need-overflow-sub-floor-div
-sub-floor-div c = let s = c.before.before in simp (to_z-of_z, n-fits s.requires) (sizes s).0
-
-mul-floor-div : tie.Need-overflow-mul-floor-div
-mul-floor-div c = let s = c.before.before in simp (to_z-of_z, n-fits s.requires, (sizes s).0) (sizes s).1
-
-floor-div-requires : tie.Need-floor-div-requires
-floor-div-requires c κs =
-    let s = c.before.before in
-    simp (to_z-of_z, n-fits s.requires, (sizes s).0, (sizes s).1) (lt_z_yes tt, omega (arith, (sizes s).2))
-
-p-is : (c : tie.After-floor-div) → c.floor-div.result ≡ tropical_millionths c.before.before.before.args.e
+p-is : (c : After-floor_div) → c.floor_div.result ≡ tropical_millionths c.before.before.before.args.e
 unfolding tropical_millionths
-p-is c = let s = c.before.before.before in simp (to_z-of_z, n-fits s.requires, (sizes s).0, (sizes s).1) at c.floor-div.ensures
+p-is c = let s = c.before.before.before in simp (to_z-of_z, n-fits s.requires, (sizes s).0, (sizes s).1) at c.floor_div.ensures
 
-returns : tie.Need-returns
+pub returns : goal.returns
 unfolding tropical_millionths
 returns c =
     let s = c.before.before.before in
     let h = floor-abs (million s.args.e.n) tropical_century (10 ^ 6) (lit< tt) (sizes s).2 in
-    simp (to_z-of_z, ok-fits c.floor-div.result c.floor-div.type-inv) (p-is c, rw (p-is c) (omega (arith, h)))
-
-pub tropical-millionths-spec : {M : Type 1} → statement M
-tropical-millionths-spec = tie.close (tie.spec sub-floor-div mul-floor-div floor-div-requires returns)
+    simp (to_z-of_z, ok-fits c.floor_div.result c.floor_div.type_inv) (p-is c, rw (p-is c) (omega (arith, h)))

@@ -9,8 +9,7 @@ use Rattle.exact.proofs.Machine.{fits_lt}
 use Rattle.polaris.specs.Apparent.{true_direction}
 use Rattle.polaris.specs.Sizes.{ElementsSized}
 use Rattle.polaris.specs.declared.Elements.{Elements}
-use Rattle.polaris.proofs.true_direction.Statement.{statement}
-use Rattle.polaris.proofs.true_direction.Tie as tie
+use Rattle.polaris.proofs.true_direction.Goals as goal
 
 fit : {k : Elements} → ElementsSized k → SFits w64 k.alpha × SFits w64 k.delta × SFits w64 k.zeta × SFits w64 k.theta × SFits w64 k.z
 fit {k} h = (
@@ -21,26 +20,7 @@ fit {k} h = (
   fits_lt (2 ^ 40) k.z h.z refl,
 )
 
-catalogue-requires : tie.Need-catalogue-requires
-catalogue-requires c κs = search rules
-
-precessed-requires : tie.Need-precessed-requires
-precessed-requires c κs =
-    let a = c.before.before.before in
-    let s = a.before.before.before in
-    let h = s.requires.1 in
-    let f = fit h in
-    simp (to_z-of_z, f.2, f.3, f.4) (s.requires.0, h.zeta, h.theta, h.z, omega (arith, a.catalogue.ensures.1))
-
-nutated-requires : tie.Need-nutated-requires
-nutated-requires c κs =
-    let a = c.before.before.before.before in
-    let s = a.before.before.before in
-    let f = s.ranges in
-    simp (to_z-of_z, f.epsilon0, f.dpsi, f.epsilon)
-    (s.requires.0, s.requires.2, s.requires.3, s.requires.4, omega (arith, c.precessed.ensures.1, a.catalogue.ensures.1))
-
-returns : tie.Need-returns
+pub returns : goal.returns
 unfolding true_direction
 returns c =
     let b = c.before in
@@ -50,8 +30,5 @@ returns c =
     let k = fit s.requires.1 in
     let nutation = simp (to_z-of_z, f.epsilon0, f.dpsi, f.epsilon) at c.nutated.ensures.0 in
     let precession = simp (to_z-of_z, k.2, k.3, k.4) at b.precessed.ensures.0 in
-    let catalogued = simp (to_z-of_z, k.0, k.1) at a.catalogue.ensures.0 in
+    let catalogued = simp (to_z-of_z, k.0, k.1) at a.catalogue-d.ensures.0 in
     (cc (nutation, precession, catalogued), omega arith)
-
-pub true-direction-spec : {M : Type 1} → statement M
-true-direction-spec = tie.close (tie.spec catalogue-requires precessed-requires nutated-requires returns)

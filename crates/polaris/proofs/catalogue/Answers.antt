@@ -21,8 +21,8 @@ use Rattle.rotation.specs.Length.{squared_length}
 use Rattle.rotation.proofs.Growth.{plane-xz}
 use Rattle.rotation.proofs.Components.{rotated-3, sin-neg, cos-neg}
 use Rattle.polaris.specs.Apparent.{catalogue}
-use Rattle.polaris.proofs.catalogue.Statement.{statement}
-use Rattle.polaris.proofs.catalogue.Tie as tie
+use Rattle.polaris.proofs.catalogue.Goals.{After-sin, Start}
+use Rattle.polaris.proofs.catalogue.Goals as goal
 
 catalogue-is : (α δ : ℤ) → rotated (rotation3 (neg_ℤ α)) (cos_of δ ∷ pos 0 ∷ sin_of δ ∷ []) ≡ catalogue α δ
 unfolding catalogue
@@ -37,8 +37,8 @@ catalogue-is α δ =
     y-is : (c s d : ℤ) → neg_ℤ (neg_ℤ s) *ℤ d +ℤ c *ℤ pos 0 ≡ d *ℤ s
     y-is c s d = rw (split c, split s, split d) (simp zs (omega arith))
 
-module _ (c : tie.After-sin) where
-  abbrev start : tie.Start
+module _ (c : After-sin) where
+  abbrev start : Start
   start = c.before.before.before
 
   abbrev x : ℤ
@@ -48,10 +48,10 @@ module _ (c : tie.After-sin) where
   z = c.sin.result
 
   fits : SFits w64 x × SFits w64 z
-  fits = (ok-fits x c.before.cos.type-inv, ok-fits z c.sin.type-inv)
+  fits = (ok-fits x c.before.cos.type_inv, ok-fits z c.sin.type_inv)
 
-  angle-is : c.before.before.reduced-bounded.result ≡ reduced start.args.delta
-  angle-is = simp (to_z-of_z, start.fits.delta) at c.before.before.reduced-bounded.ensures.0
+  angle-is : c.before.before.reduced_bounded-d.result ≡ reduced start.args.delta
+  angle-is = simp (to_z-of_z, start.ranges.delta) at c.before.before.reduced_bounded-d.ensures.0
 
   x-is : x ≡ cos_of start.args.delta
   x-is = c.before.cos.ensures.0 ∙ ap Cos angle-is
@@ -62,26 +62,14 @@ module _ (c : tie.After-sin) where
   short : squared_length (x ∷ pos 0 ∷ z ∷ []) ≤ circle_most
   short = plane-xz (reduced start.args.delta) (reduced-lt start.args.delta) x-is z-is
 
-reduced-bounded-requires : tie.Need-reduced-bounded-requires
-reduced-bounded-requires c κs = simp (to_z-of_z, c.ranges.delta) (omega arith)
-
-cos-requires : tie.Need-cos-requires
-cos-requires c κs = search rules
-
-sin-requires : tie.Need-sin-requires
-sin-requires c κs = search rules
-
-rotated-back-requires : tie.Need-rotated-back-requires
-rotated-back-requires c κs =
+pub rotated_back-requires : goal.rotated_back-requires
+rotated_back-requires c =
     let s = start c in
-    simp (to_z-of_z, s.fits.alpha, (fits c).0, (fits c).1) (s.pre.0, s.pre.1, omega (arith, short c))
+    simp (to_z-of_z, s.ranges.alpha, (fits c).0, (fits c).1) (s.requires.0, s.requires.1, omega (arith, short c))
 
-returns : tie.Need-returns
+pub returns : goal.returns
 returns c =
     let d = c.before in
     let s = start d in
-    let e = simp (to_z-of_z, s.fits.alpha, (fits d).0, (fits d).1) at c.rotated-back.ensures in
+    let e = simp (to_z-of_z, s.ranges.alpha, (fits d).0, (fits d).1) at c.rotated_back.ensures in
     (cc (e.0, x-is d, z-is d, catalogue-is s.args.alpha s.args.delta), omega (arith, e.1, short d))
-
-pub catalogue-spec : {M : Type 1} → statement M
-catalogue-spec = tie.close (tie.spec reduced-bounded-requires cos-requires sin-requires rotated-back-requires returns)
