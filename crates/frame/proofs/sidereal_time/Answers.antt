@@ -2,13 +2,10 @@
 use mathlib.Core.Path.{◌≡◌, ap, ap₂, ◌∙◌}
 use Prim.Native.Nat.{ℕ, ◌≤◌, ◌<◌, ◌^◌}
 use native.Mathlib.Omega.{arith}
-use lib.Dec.{lit<, lit≤}
 use lib.IntN.{ℤ, pos, nat_abs, ◌+ℤ◌, ◌*ℤ◌}
-use lib.Signed.{le_z_yes}
 use mir.Facts.{to_z-of_z}
 use mir.Syntax.{w64}
 use mir.Val.{SFits}
-use borrow.Author.Rules.{rules}
 use Rattle.exact.specs.Reduction.{turn, reduced}
 use Rattle.exact.specs.Century.{century}
 use Rattle.exact.specs.Division.{floor_div, nearest_div}
@@ -21,8 +18,8 @@ use Rattle.epoch.specs.declared.Epoch.{Epoch}
 use Rattle.epoch.proofs.Sizes.{n-size, n-fits}
 use Rattle.arguments.specs.Argument.{argument}
 use Rattle.frame.specs.Sidereal.{sidereal, equinoxes, sidereal_time}
-use Rattle.frame.proofs.sidereal_time.Statement.{statement}
-use Rattle.frame.proofs.sidereal_time.Tie as tie
+use Rattle.frame.proofs.sidereal_time.Goals.{After-equinoxes, After-struct_told-1, Start}
+use Rattle.frame.proofs.sidereal_time.Goals as goal
 
 -- ---- over plain numbers
 abbrev day : ℤ → ℤ
@@ -51,85 +48,48 @@ whole e Δψ ε =
     back d l v x = rw (split d, split l, split v, split x) (simp zs (omega arith))
 
 -- ---- what the calls give
-module _ (c : tie.After-struct-told) where
-  abbrev start : tie.Start
+module _ (c : After-struct_told-1) where
+  abbrev start : Start
   start = c.before.before.before
 
   abbrev e : Epoch
   e = start.args.universal
 
   abbrev found : ℕ
-  found = c.before.before.argument.result
+  found = c.before.before.argument-excess.result
 
   found-is : (found ≡ argument sidereal e) × (found < turn)
   unfolding sidereal nearest_div floor_div
-  found-is = c.before.before.argument.ensures
+  found-is = c.before.before.argument-excess.ensures
 
   fit : SFits w64 e.n × SFits w64 (pos found)
-  fit = (n-fits start.pre.1, record { sfits = omega (arith, found-is.1) })
+  fit = (n-fits start.requires.1, record { sfits = omega (arith, found-is.1) })
 
   -- before the last addend is known
   early : Sums e.n (pos found) (pos 0)
-  early = sums e.n (pos found) (pos 0) (n-size start.pre.1) found-is.1 (omega arith)
+  early = sums e.n (pos found) (pos 0) (n-size start.requires.1) found-is.1 (omega arith)
 
-module _ (c : tie.After-equinoxes) where
-  abbrev d : tie.After-struct-told
+module _ (c : After-equinoxes) where
+  abbrev d : After-struct_told-1
   d = c.before
 
   abbrev x : ℤ
   x = c.equinoxes.result
 
   late : Sums (e d).n (pos (found d)) x
-  late = sums (e d).n (pos (found d)) x (n-size (start d).pre.1) (found-is d).1 c.equinoxes.ensures.1
+  late = sums (e d).n (pos (found d)) x (n-size (start d).requires.1) (found-is d).1 c.equinoxes.ensures.1
 
   x-is : x ≡ equinoxes (start d).args.dpsi (start d).args.epsilon
-  x-is = simp (to_z-of_z, (start d).fits.dpsi, (start d).fits.epsilon) at c.equinoxes.ensures.0
+  x-is = simp (to_z-of_z, (start d).ranges.dpsi, (start d).ranges.epsilon) at c.equinoxes.ensures.0
 
   x_fits : SFits w64 x
-  x_fits = ok-fits x c.equinoxes.type-inv
+  x_fits = ok-fits x c.equinoxes.type_inv
 
--- ---- the needs
-argument-requires : tie.Need-argument-requires
-argument-requires c κs = (record { c0 = lit≤ tt; whole = lit≤ tt; natural = le_z_yes tt; rest = lit< tt; c2 = lit≤ tt }, c.requires.1)
-
-cast-excess : tie.Need-overflow-cast-excess
-cast-excess c = search rules
-
-add-reduced-bounded : tie.Need-overflow-add-reduced-bounded
-add-reduced-bounded c = simp (to_z-of_z, (fit c).0) (early c).0
-
-mul-reduced-bounded : tie.Need-overflow-mul-reduced-bounded
-mul-reduced-bounded c = simp (to_z-of_z, (fit c).0, (early c).0) (early c).1
-
-add-reduced-bounded-2 : tie.Need-overflow-add-reduced-bounded-2
-add-reduced-bounded-2 c = simp (to_z-of_z, (fit c).0, (fit c).1, (early c).0, (early c).1) (early c).2
-
-equinoxes-requires : tie.Need-equinoxes-requires
-equinoxes-requires c κs = search rules
-
-add-reduced-bounded-3 : tie.Need-overflow-add-reduced-bounded-3
-add-reduced-bounded-3 c =
-    let f = fit (d c) in
-    let l = late c in
-    simp (to_z-of_z, f.0, f.1, l.0, l.1, l.2, x_fits c) l.3
-
-reduced-bounded-requires : tie.Need-reduced-bounded-requires
-reduced-bounded-requires c κs =
-    let f = fit (d c) in
-    let l = late c in
-    simp (to_z-of_z, f.0, f.1, l.0, l.1, l.2, l.3, x_fits c) l.4
-
-returns : tie.Need-returns
+pub returns : goal.returns
 returns c =
     let b = c.before in
     let f = fit (d b) in
     let l = late b in
-    let r = simp (to_z-of_z, f.0, f.1, l.0, l.1, l.2, l.3, x_fits b) at c.reduced-bounded.ensures.0 in
+    let r = simp (to_z-of_z, f.0, f.1, l.0, l.1, l.2, l.3, x_fits b) at c.reduced_bounded.ensures.0 in
     let is = ap₂ (λ (a : ℕ) (x : ℤ). reduced (day (e (d b)).n +ℤ pos a +ℤ x)) (found-is (d b)).0 (x-is b) in
-    (r ∙ is ∙ whole (e (d b)) (start (d b)).args.dpsi (start (d b)).args.epsilon, c.reduced-bounded.ensures.1)
-
-pub sidereal-time-spec : {M : Type 1} → statement M
-sidereal-time-spec =
-    tie.close
-    (tie.spec argument-requires cast-excess add-reduced-bounded mul-reduced-bounded add-reduced-bounded-2 equinoxes-requires add-reduced-bounded-3
-    reduced-bounded-requires returns)
+    (r ∙ is ∙ whole (e (d b)) (start (d b)).args.dpsi (start (d b)).args.epsilon, c.reduced_bounded.ensures.1)

@@ -1,0 +1,33 @@
+-- The rows stand for the printed terms in whole units, which antt computes.
+use mathlib.Core.Path.{◌≡◌}
+use Prim.Native.Nat.{◌≤◌, ◌^◌}
+use native.Mathlib.Nat.{le_trans}
+use lib.Dec.{lit≤}
+use lib.IntN.{nat_abs}
+use mir.Facts.{to_z-of_z}
+use Rattle.exact.specs.Division.{floor_div, nearest_div}
+use Rattle.exact.proofs.Machine.{ok-fits}
+use Rattle.secular.specs.Sizes.{most}
+use Rattle.epoch.proofs.Sizes.{q-size, q-fits}
+use Rattle.arguments.specs.PrintedArguments.{argument_count}
+use Rattle.series.specs.Sum.{weights}
+use Rattle.series.specs.Rows.{kept, steady_term, steady_terms, varying_term}
+use Rattle.series.specs.Sizes.{counts}
+use Rattle.series.proofs.Sizes.{sum-ready}
+use Rattle.frame.specs.Nutation.{deps}
+use Rattle.frame.proofs.deps.Goals.{After-rounded_sum}
+use Rattle.frame.proofs.deps.Goals as goal
+
+module _ (c : After-rounded_sum) where
+  sum_is : (c.rounded_sum.result ≡ deps c.args.arguments.now c.args.e.q) × (nat_abs c.rounded_sum.result ≤ 2 ^ 20)
+  unfolding deps weights most kept steady_term steady_terms varying_term nearest_div floor_div
+  sum_is = (simp (to_z-of_z, q-fits c.requires.2) at c.rounded_sum.ensures.0, le_trans c.rounded_sum.ensures.1 (lit≤ tt))
+
+pub rounded_sum-requires : goal.rounded_sum-requires
+unfolding weights most kept steady_term steady_terms varying_term counts
+rounded_sum-requires c =
+    let p = c.requires in
+    simp (to_z-of_z, q-fits p.2) (sum-ready argument_count p.0 p.1.reduced p.1.all (q-size p.2) tt tt tt)
+
+pub returns : goal.returns
+returns c = simp (to_z-of_z, ok-fits c.rounded_sum.result c.rounded_sum.type_inv) (sum_is c)
