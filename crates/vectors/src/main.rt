@@ -70,7 +70,7 @@ fn answer_all(out: Stdout, t: &SineTable, input: &[u8])
     let mut card = card::fresh();
     let mut from = 0;
     while from < input.len() {
-        let end = words::find(input, from, b'\n');
+        let end = lines::find(input, from, input.len(), b'\n');
         card = answer(out, t, card, &input[from..end]);
         output::newline(out);
         from = end + 1;

@@ -103,27 +103,15 @@ fn fields_word(word: &[u8], count: usize) -> Word {
     Word::Other
 }
 
-// Where a byte stands first, from a place on; the end where it does not.
-pub fn find(s: &[u8], from: usize, byte: u8) -> usize
-    requires { from ≤ length s.now }
-    ensures { (from ≤ result) × (result ≤ length s.now) }
-{
-    let mut at = from;
-    while at < s.len() && s[at] != byte {
-        at += 1;
-    }
-    at
-}
-
 // The bytes before the first space.
 fn first(line: &[u8]) -> &[u8] {
-    let end = find(line, 0, b' ');
+    let end = lines::find(line, 0, line.len(), b' ');
     &line[0..end]
 }
 
 // The bytes behind it.
 pub fn rest(line: &[u8]) -> &[u8] {
-    let end = find(line, 0, b' ');
+    let end = lines::find(line, 0, line.len(), b' ');
     if end < line.len() {
         let start = end + 1;
         &line[start..]
@@ -136,9 +124,9 @@ pub fn rest(line: &[u8]) -> &[u8] {
 pub fn second_end(line: &[u8]) -> usize
     ensures { result ≤ length line.now }
 {
-    let end = find(line, 0, b' ');
+    let end = lines::find(line, 0, line.len(), b' ');
     if end < line.len() {
-        find(line, end + 1, b' ')
+        lines::find(line, end + 1, line.len(), b' ')
     } else {
         end
     }

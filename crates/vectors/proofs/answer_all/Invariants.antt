@@ -1,0 +1,6 @@
+-- The measure is the number of bytes that are left.
+use Rattle.std.proofs.Common.{length, ◌-◌}
+use Rattle.vectors.proofs.answer_all.Given as goal
+
+abbrev pub decreases-loop : goal.decreases-loop
+decreases-loop l = length l.input - l.from
