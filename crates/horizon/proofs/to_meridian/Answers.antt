@@ -11,13 +11,13 @@ use Rattle.exact.specs.Reduction.{turn}
 use Rattle.exact.proofs.Differences.{split, zs}
 use Rattle.exact.proofs.Machine.{as-signed}
 use Rattle.horizon.specs.Horizon.{to_meridian}
-use Rattle.horizon.proofs.to_meridian.Statement.{statement}
-use Rattle.horizon.proofs.to_meridian.Tie as tie
+use Rattle.horizon.proofs.to_meridian.Goals.{Start}
+use Rattle.horizon.proofs.to_meridian.Goals as goal
 
 sum-size : (n : ℕ) (z : ℤ) → n < turn → nat_abs z < 2 ^ 40 → SFits w64 (pos n +ℤ z) × (nat_abs (pos n +ℤ z) ≤ 2 ^ 61)
 sum-size n z = rw (split z) (simp zs (omega arith))
 
-module _ (s : tie.Start) where
+module _ (s : Start) where
   is_signed : to_z w64 s.args.sidereal ≡ pos s.args.sidereal
   is_signed = as-signed s.args.sidereal (omega arith)
 
@@ -25,26 +25,11 @@ module _ (s : tie.Start) where
   sum = pos s.args.sidereal +ℤ s.args.longitude
 
   sum-in : SFits w64 sum × (nat_abs sum ≤ 2 ^ 61)
-  sum-in = sum-size s.args.sidereal s.args.longitude s.pre.2 s.pre.3
+  sum-in = sum-size s.args.sidereal s.args.longitude s.requires.2 s.requires.3
 
-cast-rotation3 : tie.Need-overflow-cast-rotation3
-cast-rotation3 c = search rules
-
-add-rotation3 : tie.Need-overflow-add-rotation3
-add-rotation3 c = simp (is_signed c, to_z-of_z, c.ranges.longitude) (sum-in c).0
-
-rotation3-requires : tie.Need-rotation3-requires
-rotation3-requires c κs = simp (is_signed c, to_z-of_z, c.ranges.longitude, (sum-in c).0) (c.requires.0, (sum-in c).1)
-
-rotated-requires : tie.Need-rotated-requires
-rotated-requires c κs = search rules
-
-returns : tie.Need-returns
+pub returns : goal.returns
 unfolding to_meridian
 returns c =
     let s = c.before.before in
     let e = simp (is_signed s, to_z-of_z, s.ranges.longitude, (sum-in s).0) at c.before.rotation3.ensures.0 in
     (cc (c.rotated.ensures.0, e), c.rotated.ensures.1)
-
-pub to-meridian-spec : {M : Type 1} → statement M
-to-meridian-spec = tie.close (tie.spec cast-rotation3 add-rotation3 rotation3-requires rotated-requires returns)
