@@ -4,7 +4,7 @@ use Rattle.exact.specs.Century.{century}
 use Rattle.exact.specs.Division.{floor_div}
 use Rattle.epoch.specs.declared.Epoch.{Epoch}
 
--- 01′s q: the millionths of a century in N, rounded down
+-- 01's q: the millionths of a century in N, rounded down
 unfoldable pub millionths : ℤ → ℤ
 millionths n = floor_div (pos 1_000_000 *ℤ n) century
 

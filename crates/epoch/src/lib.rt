@@ -5,7 +5,7 @@ ghost use Rattle.std.specs.Prelude.{◌≡◌};
 ghost use Rattle.epoch.specs.Epoch.{epoch_of};
 ghost use Rattle.epoch.specs.Sizes.{Span, InSpan};
 
-// 01′s N, in milliseconds since 1900 January 0.5, and q, the millionths of a Julian century in it.
+// 01's N, in milliseconds since 1900 January 0.5, and q, the millionths of a Julian century in it.
 #[derive(Clone, Copy)]
 pub struct Epoch {
     pub n: i64,

@@ -1,4 +1,4 @@
--- What an `i64` holds. A signed local holds bits, so a need has `to_z w64 (of_z w64 z)` for each z that is read, which is z where z fits.
+-- What an `i64` holds. A signed local holds bits, so a goal has `to_z w64 (of_z w64 z)` for each z that is read, which is z where z fits.
 use mathlib.Core.Path.{◌≡◌, refl, sym, subst}
 use mathlib.Core.Bool.{Bool, true, false, not, ◌&&◌, true≢false}
 use Prim.Native.Nat.{ℕ, ◌-◌, ◌^◌, ◌≤◌, ◌<◌}
@@ -16,8 +16,8 @@ use Rattle.exact.specs.Reduction.{turn, is_reduced}
 use Rattle.exact.proofs.Differences.{split, zs, abs-dif}
 
 -- ---- what the machine reads back
--- At a need itself `simp (to_z-of_z, f, g, ..) t` puts each z, with a proof f that it fits, at the very number, no `(i : ℕ) → ..`, and t proves what is left.
--- For a lemma over plain numbers, away from `c`: `held z` is a need's `to_z w64 (of_z w64 z)` under the line `unfolding held`, and `simp (held-is, f, g, ..)` puts z.
+-- At a goal itself `simp (to_z-of_z, f, g, ..) t` puts each z, with a proof f that it fits, at the very number, no `(i : ℕ) → ..`, and t proves what is left.
+-- For a lemma over plain numbers, away from `c`: `held z` is a goal's `to_z w64 (of_z w64 z)` under the line `unfolding held`, and `simp (held-is, f, g, ..)` puts z.
 unfoldable pub held : ℤ → ℤ
 held z = to_z w64 (of_z w64 z)
 
@@ -26,7 +26,7 @@ unfolding held
 held-is z f = to_z-of_z f
 
 -- ---- what fits
--- a parameter x: `c.fits.x`; the result of a call of f: `ok-fits c.f.result c.f.ok`
+-- a parameter x: `c.ranges.x`; the result of a call of f: `ok-fits c.f.result c.f.type_inv`
 pub ok-fits : (z : ℤ) → mag z < 2 ^ 63 → SFits w64 z
 ok-fits z p = record { sfits = p }
 
@@ -40,7 +40,7 @@ fits_lt n z h e = abs-fits z (lt_of_lt_of_le h (leb-true n (2 ^ 63) e))
 pub fits_le : (n : ℕ) (z : ℤ) → nat_abs z ≤ n → ltb n (2 ^ 63) ≡ true → SFits w64 z
 fits_le n z h e = abs-fits z (lt_of_le_of_lt h (ltb-true n (2 ^ 63) e))
 
--- ---- a test of two signed numbers, as a branch leaves it: `is_lt c.if1.taken`, `is_ge c.if1.left`
+-- ---- a test of two signed numbers, as a branch leaves it: `is_lt c.if-a-b.true`, `is_ge c.if-a-b.false`
 pub is_lt : {a b : ℤ} → lt_z a b ≡ true → a <ℤ b
 is_lt e = lt_z_yes (subst T (sym e) tt)
 

@@ -3,7 +3,7 @@ use Rattle.std.specs.Prelude.{Bool, ℕ, ◌-◌, min, max, ℤ, pos, nat_abs, �
 use Rattle.exact.specs.Division.{floor_div}
 use Rattle.exact.specs.Range.{between}
 
--- 01′s Q: a quadrant, 90°
+-- 01's Q: a quadrant, 90°
 abbrev pub Q : ℕ
 Q = 3_240_000_000
 
@@ -15,7 +15,7 @@ turn = 12_960_000_000
 unfoldable pub rest : ℤ → ℕ → ℕ
 rest z d = nat_abs (z -ℤ pos d *ℤ floor_div z d)
 
--- 01′s reduced: 0 to turn − 1
+-- 01's reduced: 0 to turn − 1
 abbrev pub is_reduced : ℤ → Bool
 is_reduced z = between (pos 0) z (pos (turn - 1))
 
@@ -26,6 +26,6 @@ reduced z = rest z turn
 abbrev pub apart : ℕ → ℕ → ℕ
 apart a b = max a b - min a b
 
--- 01′s short way: the distance of two reduced angles on the circle, by way of 0 or not, whichever is less
+-- 01's short way: the distance of two reduced angles on the circle, by way of 0 or not, whichever is less
 unfoldable pub short_way : ℕ → ℕ → ℕ
 short_way a b = min (apart a b) (turn - apart a b)

@@ -15,7 +15,7 @@ pub const TURN: i64 = 12_960_000_000;
 // So many whole turns that any angle of at most 2^61 units is natural with them.
 const TURNS: i64 = 200_000_000 * TURN;
 
-// A Julian century of 36,525 days, in milliseconds: document 01′s C.
+// A Julian century of 36,525 days, in milliseconds: document 01's C.
 pub const CENTURY: i64 = 3_155_760_000_000;
 
 // A millionth of a century, in milliseconds.

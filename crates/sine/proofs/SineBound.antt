@@ -1,9 +1,9 @@
--- Demand 3, first half: at no angle of the turn do Sin and R-as-P differ by more than the tolerance (`sine-within-tolerance`, at the end). The one fact on closed
+-- Demand 3, first half: at no angle of the turn do Sin and R·P differ by more than the tolerance (`sine-within-tolerance`, at the end). The one fact on closed
 -- numbers that ties it to a step and a tolerance, `margin`, is computed by antt: with a step of 1′ it holds for a tolerance of 19 and for none below. The
 -- largest difference is 11.556, at 3,141,300,884.
 use mathlib.Core.Path.{◌≡◌, refl}
 use mathlib.Core.List.{List}
-use Prim.Native.Nat.{ℕ, suc, ◌+◌, ◌*◌, ◌≤◌, ◌<◌}
+use Prim.Native.Nat.{ℕ, suc, ◌+◌, ◌*◌, ◌≤◌}
 use native.Mathlib.Nat.{sub-add_cancel, mul_comm, le_trans}
 use native.Mathlib.Omega.{arith}
 use lib.Dec.{lit<, lit≤}

@@ -5,12 +5,12 @@ use Rattle.sine_table.specs.SinePolynomial.{poly_den}
 use Rattle.sine_table.specs.Table.{R}
 use Rattle.sine.specs.Sine.{Sin, poly_at}
 
--- demand 3, first half: the most that Sin and R-as-P may differ, in units of 1/R. They do by 11.556 where they differ most, so 11 is false; the law of
+-- demand 3, first half: the most that Sin and R·P may differ, in units of 1/R. They do by 11.556 where they differ most, so 11 is false; the law of
 -- proofs/SineBound.antt would prove 19 and nothing less.
 abbrev pub sine_tolerance : ℕ
 sine_tolerance = 30
 
--- of a number r that is given out as the sine of a: it is Sin(a), at most R in magnitude, and at most `sine_tolerance` from R-as-P(a), both times poly_den
+-- of a number r that is given out as the sine of a: it is Sin(a), at most R in magnitude, and at most `sine_tolerance` from R·P(a), both times poly_den
 pub record IsSine (a : ℕ) (r : ℤ) : Type 0 where
   pub value : r ≡ Sin a
   pub range : nat_abs r ≤ R

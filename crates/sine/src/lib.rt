@@ -15,7 +15,7 @@ use sine_table::{STEP, SineTable};
 // A quadrant, in units of 0.0001 second of arc.
 pub const QUADRANT: u64 = 3_240_000_000;
 
-// What 1 is scaled to, in sines and in the components of a direction: document 01′s R.
+// What 1 is scaled to, in sines and in the components of a direction: document 01's R.
 pub const RADIUS: i64 = 1_000_000_000;
 
 // The number at r units of a step from low up to high, to nearest: low, and the share of what is between them.

@@ -5,11 +5,11 @@ use Rattle.exact.specs.Reduction.{Q}
 use Rattle.sine_table.specs.Step.{step}
 use Rattle.sine_table.specs.SinePolynomial.{poly_num, poly_den}
 
--- 01′s R: what a sine of one is scaled to
+-- 01's R: what a sine of one is scaled to
 abbrev pub R : ℕ
 R = 1_000_000_000
 
--- the rule of a table with any step s: its n-th number is R-as-P at n steps, to nearest
+-- the rule of a table with any step s: its n-th number is R·P at n steps, to nearest
 unfoldable pub entry_by : ℕ → ℕ → ℕ
 entry_by s n = nearest_div_ℕ (R * poly_num (s * n)) poly_den
 

@@ -10,7 +10,6 @@ use mir.Syntax.{w64}
 use mir.Val.{SFits}
 use Rattle.exact.specs.Division.{floor_div}
 use Rattle.exact.proofs.Division.{floor-scale}
-use Rattle.exact.proofs.Machine.{to-nat}
 use Rattle.epoch.specs.Epoch.{millionths, epoch}
 use Rattle.epoch.proofs.Sizes.{span-size, span-natural}
 use Rattle.epoch.proofs.epoch_of.Goals.{Start}

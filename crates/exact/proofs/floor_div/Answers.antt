@@ -13,7 +13,7 @@ use Rattle.exact.specs.Division.{floor_div}
 use Rattle.exact.proofs.Differences.{split, zs, abs-dif}
 use Rattle.exact.proofs.Division.{floor-offset}
 use Rattle.exact.proofs.Machine.{to-nat}
-use Rattle.exact.proofs.Quotient.{Positive, some, positive, bits_pos, floor-fits}
+use Rattle.exact.proofs.Quotient.{Positive, some, positive, floor-fits}
 use Rattle.exact.proofs.floor_div.Goals.{Start}
 use Rattle.exact.proofs.floor_div.Goals as goal
 

@@ -14,7 +14,7 @@ use Rattle.exact.specs.Century.{century}
 use Rattle.exact.proofs.Differences.{split, zs}
 use Rattle.exact.proofs.Division.{floor-add}
 use Rattle.exact.proofs.Integers.{abs-*-le}
-use Rattle.exact.proofs.Machine.{fits_le, to-nat}
+use Rattle.exact.proofs.Machine.{fits_le}
 use Rattle.exact.proofs.per_century.Goals.{After-rest_per_century, Start}
 use Rattle.exact.proofs.per_century.Goals as goal
 

@@ -2,15 +2,15 @@
 use mathlib.Core.Path.{◌≡◌, refl}
 use Prim.Native.Nat.{◌<◌}
 use native.Mathlib.Omega.{arith}
-use lib.Dec.{T, lit<}
+use lib.Dec.{lit<}
 use lib.IntN.{ℤ, pos, nat_abs, ◌+ℤ◌}
-use lib.Signed.{non_neg, rem_z, lt_z_yes}
+use lib.Signed.{rem_z}
 use mir.Facts.{to_z-of_z}
 use mir.Syntax.{w64}
-use mir.Val.{Fits, SFits}
+use mir.Val.{SFits}
 use Rattle.exact.specs.Reduction.{turn, reduced}
 use Rattle.exact.proofs.Differences.{split, zs}
-use Rattle.exact.proofs.Quotient.{quot_fits, rem-fits, rem-abs, rem-more, rem-same}
+use Rattle.exact.proofs.Quotient.{rem-fits, rem-abs, rem-more, rem-same}
 use Rattle.exact.proofs.Machine.{is_lt, is_ge}
 use Rattle.exact.proofs.Reduction.{reduced-lt}
 use Rattle.exact.proofs.reduced.Goals.{Else-r-lt0, Start, Then-r-lt0}

@@ -7,10 +7,8 @@ use lib.Signed.{◌≤ℤ◌, yes_non_neg, pos-nat_abs}
 use mir.Facts.{to_z-of_z}
 use mir.Syntax.{w64}
 use mir.Val.{SFits}
-use borrow.Author.Rules.{rules}
 use Rattle.exact.specs.Reduction.{turn, reduced}
 use Rattle.exact.proofs.Differences.{split, zs}
-use Rattle.exact.proofs.Machine.{to-nat}
 use Rattle.exact.proofs.Reduction.{rest-offset, reduced-lt}
 use Rattle.exact.proofs.reduced_bounded.Goals as goal
 

@@ -1,7 +1,7 @@
 -- The loop's invariant: the guess is at the root or above, and q is x divided by it. The guess falls until q is no
 -- longer below it.
-use mathlib.Core.Path.{◌≡◌, refl, sym}
-use Prim.Native.Nat.{◌+◌, ◌*◌, ◌/◌, ◌^◌, ◌≤◌, ◌<◌}
+use mathlib.Core.Path.{refl, sym}
+use Prim.Native.Nat.{◌/◌, ◌≤◌}
 use native.Mathlib.Omega.{arith}
 use Rattle.exact.proofs.Largest.{root_is}
 use Rattle.exact.proofs.Newton.{step-above, square_le, guess-pos}

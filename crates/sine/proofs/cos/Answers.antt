@@ -1,7 +1,6 @@
 use mathlib.Core.Path.{sym, ◌∙◌}
 use native.Mathlib.Omega.{arith}
 use mir.Facts.{to_z-of_z}
-use borrow.Author.Rules.{rules}
 use Rattle.exact.proofs.Machine.{ok-fits}
 use Rattle.sine.proofs.Extension.{cos-low, cos-high}
 use Rattle.sine.proofs.cos.Goals as goal

@@ -1,12 +1,10 @@
 -- What is between the entries, shared out and rounded once.
 use mathlib.Core.Path.{◌≡◌}
 use Prim.Native.Nat.{ℕ, ◌+◌, ◌-◌, ◌*◌, ◌/◌, ◌≤◌}
-use native.Mathlib.Nat.{mul-le-mul, mul-le-mul_left}
+use native.Mathlib.Nat.{mul-le-mul_left}
 use native.Mathlib.Omega.{arith}
-use borrow.Author.Rules.{rules}
 use Rattle.exact.specs.Division.{nearest_div_ℕ}
 use Rattle.sine_table.specs.Step.{step}
-use Rattle.sine_table.specs.Table.{R}
 use Rattle.sine.specs.Sine.{interpolated}
 use Rattle.sine.proofs.interpolated.Goals as goal
 

@@ -3,7 +3,6 @@ use mathlib.Core.Path.{◌≡◌, ap, ◌∙◌}
 use mathlib.Core.List.{List}
 use Prim.Native.Nat.{ℕ}
 use lib.ListN.{get_or}
-use borrow.Author.Rules.{rules}
 use Rattle.sine_table.specs.Table.{entry_at}
 use Rattle.sine_table.proofs.TableRule.{entry-at, entry-le}
 use Rattle.sine_table.proofs.entry_at.Goals as goal

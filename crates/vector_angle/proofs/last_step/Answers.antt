@@ -55,8 +55,8 @@ loop-left-preserved c =
     let y = c.args.y in
     let tried = sym c.start_passes.ensures in
     elim c.if-start_passes.branch [
-      then-start_passes w ↦ rw (w.n-is, w.rest-is) (above x y l.n l.rest l.left l.invariant (tried ∙ w.if-start_passes.true))
-    | else-start_passes w ↦ rw (w.n-is, w.rest-is) (below x y l.n l.rest l.left l.invariant (tried ∙ w.if-start_passes.false))
+      | then-start_passes w ↦ rw (w.n-is, w.rest-is) (above x y l.n l.rest l.left l.invariant (tried ∙ w.if-start_passes.true))
+      | else-start_passes w ↦ rw (w.n-is, w.rest-is) (below x y l.n l.rest l.left l.invariant (tried ∙ w.if-start_passes.false))
     ]
 
 pub returns : goal.returns
