@@ -1,0 +1,38 @@
+-- The rows stand for the printed terms in whole units, which antt computes.
+use mathlib.Core.Path.{◌≡◌, ap, ◌∙◌}
+use mathlib.Core.List.{List}
+use Prim.Native.Nat.{◌*◌, ◌≤◌, ◌^◌}
+use native.Mathlib.Nat.{le_trans}
+use lib.Dec.{lit≤}
+use lib.IntN.{ℤ, nat_abs}
+use mir.Facts.{to_z-of_z}
+use borrow.Author.Rules.{rules}
+use Rattle.exact.specs.Division.{floor_div, nearest_div}
+use Rattle.exact.proofs.Machine.{ok-fits}
+use Rattle.secular.specs.Sizes.{most}
+use Rattle.sine_table.specs.Table.{R}
+use Rattle.sine.specs.Sine.{Sin}
+use Rattle.epoch.proofs.Sizes.{q-size, q-fits}
+use Rattle.arguments.specs.PrintedArguments.{full_count}
+use Rattle.series.specs.Sum.{total, weights}
+use Rattle.series.specs.Rows.{kept, steady_term, steady_terms, varying_term}
+use Rattle.series.specs.Sizes.{counts}
+use Rattle.series.proofs.Sizes.{steady-ready, varying-ready}
+use Rattle.sun.specs.Series.{further}
+use Rattle.sun.proofs.further_sum.Goals as goal
+
+pub sum-requires : goal.sum-requires
+unfolding weights most kept steady_term steady_terms varying_term counts
+sum-requires c =
+    let p = c.requires in
+    let r = c.full_arguments_of-all.ensures.1 in
+    (varying-ready full_count p.0 r.reduced r.all (simp (to_z-of_z, q-fits p.2) (q-size p.2)) tt, steady-ready full_count p.0 r.reduced r.all tt)
+
+pub returns : goal.returns
+unfolding weights most kept steady_term steady_terms varying_term nearest_div floor_div
+returns c =
+    let q = c.args.e.q in
+    let is : c.sum.result ≡ total Sin c.full_arguments_of-all.result q further = simp (to_z-of_z, q-fits c.requires.2) at c.sum.ensures.0 in
+    let least : nat_abs c.sum.result ≤ R * 2 ^ 27 = le_trans c.sum.ensures.1 (lit≤ tt) in
+    simp (to_z-of_z, ok-fits c.sum.result c.sum.type_inv)
+    (is ∙ ap (λ (l : List ℤ). total Sin l q further) c.full_arguments_of-all.ensures.0, least)
