@@ -3,7 +3,6 @@ use mathlib.Core.Path.{ap, ap₂, subst⁻¹, ◌∙◌}
 use mathlib.Core.List.{List}
 use lib.IntN.{ℤ, ◌+ℤ◌, ◌-ℤ◌}
 use mir.Facts.{to_z-of_z}
-use borrow.Author.Rules.{rules}
 use Rattle.exact.specs.Reduction.{reduced}
 use Rattle.exact.proofs.Machine.{ok-fits}
 use Rattle.arguments.specs.Sizes.{IsArguments}

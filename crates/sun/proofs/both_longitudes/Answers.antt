@@ -1,13 +1,12 @@
 -- The terms that both editions share are summed once; each sum is rounded once, and each longitude is that of its edition.
 use mathlib.Core.Path.{◌≡◌, refl, ap, ap₂, subst⁻¹, ◌∙◌}
 use mathlib.Core.List.{List}
-use Prim.Native.Nat.{ℕ, ◌+◌, ◌≤◌, ◌<◌, ◌^◌}
+use Prim.Native.Nat.{ℕ, ◌≤◌, ◌<◌, ◌^◌}
 use native.Mathlib.Omega.{arith}
 use lib.IntN.{ℤ, pos, nat_abs, ◌+ℤ◌, ◌-ℤ◌}
 use mir.Facts.{to_z-of_z}
 use mir.Syntax.{w64}
 use mir.Val.{SFits}
-use borrow.Author.Rules.{rules}
 use Rattle.exact.specs.Division.{nearest_div}
 use Rattle.exact.specs.Reduction.{turn, reduced}
 use Rattle.exact.proofs.Machine.{ok-fits}
@@ -16,7 +15,7 @@ use Rattle.arguments.specs.Sizes.{IsArguments}
 use Rattle.arguments.proofs.AllReduced.{are-arguments}
 use Rattle.frame.specs.Nutation.{dpsi}
 use Rattle.sun.specs.Longitude.{mean_longitude, first_sum, IsLongitude}
-use Rattle.sun.proofs.Editions.{full-sum, full-is-not-short, short-first-sum, full-first-sum}
+use Rattle.sun.proofs.Editions.{full-is-not-short, short-first-sum, full-first-sum}
 use Rattle.sun.proofs.LongitudeBound.{is-longitude}
 use Rattle.sun.proofs.both_longitudes.Goals.{Start, After-full_sum-full, After-rounded, After-rounded-2, After-longitude_by}
 use Rattle.sun.proofs.both_longitudes.Goals as goal
@@ -99,11 +98,11 @@ returns c =
     let r = a.After-rounded in
     let f = a.After-rounded-2 in (
       edition-is s (pos 1) (sum r) c.longitude_by.result
-      ((sum_is r).0 ∙ short-first-sum (pos 1) c.args.e c.short_sum-short.result refl c.short_sum-short.ensures.0)
-      (simp (to_z-of_z, sum_fits r, c.ranges.dpsi, c.ranges.aberration) at c.longitude_by.ensures.0)
-      c.longitude_by.ensures.1,
+          ((sum_is r).0 ∙ short-first-sum (pos 1) c.args.e c.short_sum-short.result refl c.short_sum-short.ensures.0)
+          (simp (to_z-of_z, sum_fits r, c.ranges.dpsi, c.ranges.aberration) at c.longitude_by.ensures.0)
+          c.longitude_by.ensures.1,
       edition-is s (pos 2) (full f) c.longitude_by-2.result
-      ((full_is f).0 ∙ full-first-sum (pos 2) c.args.e c.full_sum-full.result full-is-not-short c.full_sum-full.ensures.0)
-      (simp (to_z-of_z, full-fits f, c.ranges.dpsi, c.ranges.aberration) at c.longitude_by-2.ensures.0)
-      c.longitude_by-2.ensures.1,
+          ((full_is f).0 ∙ full-first-sum (pos 2) c.args.e c.full_sum-full.result full-is-not-short c.full_sum-full.ensures.0)
+          (simp (to_z-of_z, full-fits f, c.ranges.dpsi, c.ranges.aberration) at c.longitude_by-2.ensures.0)
+          c.longitude_by-2.ensures.1,
     )

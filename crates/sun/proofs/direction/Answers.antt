@@ -7,7 +7,6 @@ use lib.IntN.{pos, neg_ℤ}
 use mir.Facts.{to_z-of_z}
 use mir.Syntax.{w64}
 use mir.Val.{SFits}
-use borrow.Author.Rules.{rules}
 use Rattle.exact.proofs.Machine.{held, ok-fits, negated}
 use Rattle.sine.specs.SineContract.{circle_most}
 use Rattle.rotation.specs.Rotation.{rotation1}

@@ -4,8 +4,6 @@ use Prim.Native.Nat.{◌^◌}
 use native.Mathlib.Omega.{arith}
 use lib.IntN.{ℤ}
 use mir.Facts.{to_z-of_z}
-use mir.Syntax.{w64}
-use mir.Val.{SFits}
 use Rattle.exact.specs.Division.{nearest_div}
 use Rattle.exact.proofs.Machine.{ok-fits}
 use Rattle.sine_table.specs.Table.{R}

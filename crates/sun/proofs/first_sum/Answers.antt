@@ -2,14 +2,11 @@
 use mathlib.Core.Path.{sym, ap, ◌∙◌}
 use Prim.Native.Nat.{◌^◌}
 use native.Mathlib.Omega.{arith}
-use lib.IntN.{ℤ}
 use mir.Facts.{to_z-of_z}
 use mir.Syntax.{w64}
-use mir.Val.{SFits, to_z, of_z}
-use borrow.Author.Rules.{rules}
+use mir.Val.{to_z, of_z}
 use Rattle.exact.proofs.Machine.{ok-fits}
-use Rattle.epoch.specs.declared.Epoch.{Epoch}
-use Rattle.sun.proofs.Editions.{full-sum, short-first-sum, full-first-sum}
+use Rattle.sun.proofs.Editions.{short-first-sum, full-first-sum}
 use Rattle.sun.proofs.first_sum.Goals as goal
 
 -- ---- the short edition

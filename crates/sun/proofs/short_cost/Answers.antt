@@ -6,7 +6,6 @@ use native.Mathlib.Omega.{arith}
 use lib.Dec.{lit≤}
 use lib.IntN.{nat_abs}
 use mir.Facts.{to_z-of_z}
-use borrow.Author.Rules.{rules}
 use Rattle.exact.proofs.Machine.{ok-fits}
 use Rattle.secular.specs.Sizes.{most}
 use Rattle.sun.specs.ShortCost.{short_cost}
