@@ -2,7 +2,7 @@
 """port-names.py [TOP]: brings the repository's own definitions to the spelling of today's Rattle, once, after the kit's port.py: words of specs/ and proofs/
 in snake case, as `shotOf` to `shot_of`. It goes over the proof language, the clauses of the sources, the must-fail edits, README.md and docs/, and leaves
 strings of the sources, docs/CHANGES.md (the names of their time) and every name that begins with a capital (types and modules). In comments it gives
-minutes and seconds of arc back their signs, which port.py took for primes of names. Run a second time it changes nothing."""
+minutes and seconds of arc back their signs, which port.py took for primes of names, and products their dots. Run a second time it changes nothing."""
 import os
 import re
 import sys
@@ -38,8 +38,9 @@ def declared(paths):
 
 
 def signs(comment):
-    """A comment with its minutes and seconds of arc."""
-    return re.sub(r"(?<=[0-9])'", "′", re.sub(r"(?<=[0-9])''", "″", comment))
+    """A comment with its minutes and seconds of arc, and the dots of its products."""
+    comment = re.sub(r"typeof\.([xy])\.(Sin|Cos)", r"\1·\2", comment.replace("R-as-P", "R·P"))
+    return re.sub(r"(?<=[0-9])'(?!s\b)", "′", re.sub(r"(?<=[0-9])''", "″", comment))
 
 
 def main(top):

@@ -8,7 +8,7 @@ use Rattle.arguments.specs.Argument.{arguments_by}
 abbrev row : Decimal → Decimal → Decimal → List Decimal
 row c0 c1 c2 = c0 ∷ c1 ∷ c2 ∷ []
 
--- the eight rows of 01′s table, and the three of the long period terms (source 001, 2.1)
+-- the eight rows of 01's table, and the three of the long period terms (source 001, 2.1)
 abbrev pub printed : List (List Decimal)
 printed =
     row (plus 279_696_678 6) (plus 36_000_768_925 6) (plus 303 6)  -- L, the Sun's mean longitude (001, 1.3)

@@ -29,7 +29,7 @@ year_days (suc k) = year_days k + total (months (leap_year (1900 + k)))
 unfoldable pub month_days : ℕ → ℕ → ℕ
 month_days y m = total (take (m - 1) (months (leap_year y)))
 
--- 01′s D: the days from 1899-12-31 to the date
+-- 01's D: the days from 1899-12-31 to the date
 unfoldable pub day_count : ℕ → ℕ → ℕ → ℕ
 day_count y m d = year_days (y - 1900) + month_days y m + d
 

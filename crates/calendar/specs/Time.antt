@@ -39,7 +39,7 @@ is_dut1 dut1 = between (neg_ℤ (pos 900)) dut1 (pos 900)
 unfoldable pub is_delta_t : ℤ → Bool
 is_delta_t delta_t = between (pos 0) delta_t (pos 120_000)
 
--- 01′s N, ms since 1900 January 0.5, of D, the millisecond of the day and DUT1
+-- 01's N, ms since 1900 January 0.5, of D, the millisecond of the day and DUT1
 unfoldable pub since1900 : ℕ → ℕ → ℤ → ℤ
 since1900 day ms dut1 = pos (86_400_000 * day) -ℤ pos 43_200_000 +ℤ pos ms +ℤ dut1
 

@@ -1,4 +1,4 @@
--- DUT1′s assumed 0 is the one exception. After any calls from the start with DUT1 assumed zero: where field f stands confirmed with n, n was heard for
+-- DUT1's assumed 0 is the one exception. After any calls from the start with DUT1 assumed zero: where field f stands confirmed with n, n was heard for
 -- f, read out and confirmed as proofs/ConfirmedWasReadOut.antt tells it, or f is DUT1, n is 0, and no hearing for DUT1 stands. The same of the numbers
 -- that a shot takes.
 use mathlib.Core.Path.{◌≡◌, refl, ap, ◌∙◌}

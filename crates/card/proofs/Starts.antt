@@ -1,4 +1,4 @@
--- What stands on the two starting cards: on a fresh one nothing, on the one with DUT1 assumed zero DUT1′s 0 alone.
+-- What stands on the two starting cards: on a fresh one nothing, on the one with DUT1 assumed zero DUT1's 0 alone.
 use mathlib.Core.Path.{◌≡◌, refl, sym, ap, ◌∙◌}
 use mathlib.Core.Bool.{Bool, true, false}
 use mathlib.Core.Logic.{◌≢◌}

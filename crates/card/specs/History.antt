@@ -127,7 +127,7 @@ pub record PutBackAmong (c : Card) (f n : ℤ) (calls : List Call) : Type 0 wher
   pub back : field_of (after (after_all c between) undo) f ≡ before
   pub story : Story (after (after_all c between) undo) f n rest
 
--- the one number that nobody said: DUT1′s 0 of the start before request 4, while no hearing for DUT1 stands
+-- the one number that nobody said: DUT1's 0 of the start before request 4, while no hearing for DUT1 stands
 pub record AssumedZero (calls : List Call) (f n : ℤ) : Type 0 where
   pub field : f ≡ DUT1
   pub number : n ≡ pos 0

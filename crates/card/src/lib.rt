@@ -71,7 +71,7 @@ pub struct ReadAnswer {
     pub card: Card,
 }
 
-// What a shot from a card works on: where every field is confirmed, the numbers in the order of the fields, in the units of document 01′s
+// What a shot from a card works on: where every field is confirmed, the numbers in the order of the fields, in the units of document 01's
 // table; else refusal 1, and zeros.
 #[derive(Clone, Copy)]
 pub struct ConfirmedNumbers {

@@ -79,7 +79,7 @@ pub record ShotValues : Type 0 where
 abbrev pub refused : ℕ → ShotValues
 refused k = record { refusal = k; azimuth = 0; zenith_distance = 0; hour_angle = 0; longitude = 0 }
 
--- document 01′s number and values of each case of the code's answer
+-- document 01's number and values of each case of the code's answer
 abbrev pub shot_values : Outcome → ShotValues
 shot_values (Answered a) = record { refusal = 0; azimuth = a.azimuth; zenith_distance = a.zenith_distance; hour_angle = a.hour_angle; longitude = a.longitude }
 shot_values (Refused r) = refused (number_of r)

@@ -31,7 +31,7 @@ north φ x z = nearest_div (z *ℤ cos_of φ -ℤ x *ℤ sin_of φ) R
 unfoldable pub to_horizon : ℤ → List ℤ → List ℤ
 to_horizon φ m = up φ (nth m 0) (nth m 2) ∷ nth m 1 ∷ north φ (nth m 0) (nth m 2) ∷ []
 
--- the components by which a body is seen, 01′s x', up, east and north
+-- the components by which a body is seen, 01's x', up, east and north
 pub record View : Type 0 where
   pub x : ℤ
   pub up : ℤ
@@ -85,7 +85,7 @@ sight_tests v =
 unfoldable pub sight_of : View → SightValues
 sight_of v = decided (sight_tests v) (seen v) refused
 
--- 01′s number and values of each case of the code's answer
+-- 01's number and values of each case of the code's answer
 abbrev pub sight_values : Sighting → SightValues
 sight_values (Seen a) = record { refusal = 0; azimuth = a.azimuth; zenith_distance = a.zenith_distance; hour_angle = a.hour_angle }
 sight_values (Refused r) = refused (number_of r)

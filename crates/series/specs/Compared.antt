@@ -70,6 +70,6 @@ unfoldable pub costs : ℤ → List Change → ℕ
 costs q [] = 0
 costs q (c ∷ cs) = cost q c + costs q cs
 
--- request 8′s sum of the dropped amplitudes: what ts leaves out of us, or has otherwise
+-- request 8's sum of the dropped amplitudes: what ts leaves out of us, or has otherwise
 abbrev pub dropped : List Term → List Term → ℤ → ℕ
 dropped ts us q = costs q (changes ts us)

@@ -16,11 +16,11 @@ total f arguments q (t ∷ ts) = value f arguments q t +ℤ total f arguments q 
 unfoldable pub table_sum : List ℤ → ℤ → List Term → ℤ
 table_sum arguments q terms = nearest_div (total Sin arguments q terms) R
 
--- R-as-P(a) is the fraction with the numerator R·poly_at a over poly_den
+-- R·P(a) is the fraction with the numerator R·poly_at a over poly_den
 abbrev pub scaled_p : ℕ → ℤ
 scaled_p a = pos R *ℤ poly_at a
 
--- the sum with R-as-P for the sine, each product an exact fraction, in units
+-- the sum with R·P for the sine, each product an exact fraction, in units
 unfoldable pub polynomial_sum : List ℤ → ℤ → List Term → ℤ
 polynomial_sum arguments q terms = nearest_div (total scaled_p arguments q terms) (R * poly_den)
 

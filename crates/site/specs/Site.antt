@@ -46,7 +46,7 @@ site_tests site = test (is_site site) 5 ∷ []
 unfoldable pub position_of : Site → LocatedValues
 position_of site = decided (site_tests site) (accepted (position site)) refused
 
--- 01′s number and values of each case of the code's answer
+-- 01's number and values of each case of the code's answer
 abbrev pub located_values : Located → LocatedValues
 located_values (At p) = accepted p
 located_values (Refused r) = refused (number_of r)

@@ -1,4 +1,4 @@
--- Demand 3 for any edition, by request 7′s bound: the longitude by any list of terms lies, the short way round, within `bound_of` of its polynomial
+-- Demand 3 for any edition, by request 7's bound: the longitude by any list of terms lies, the short way round, within `bound_of` of its polynomial
 -- longitude. That bound comes from the largest sum of the list's own amplitudes; with the full edition the largest sum is 70,447,118, at the first q,
 -- and the bound 5 units.
 use mathlib.Core.Path.{◌≡◌, refl, ap, subst}

@@ -1,4 +1,4 @@
--- What request 7′s bound is computed from is the largest sum over the accepted instants, and no upper estimate: at the first accepted instant, 1976-01-01
+-- What request 7's bound is computed from is the largest sum over the accepted instants, and no upper estimate: at the first accepted instant, 1976-01-01
 -- 0h with DUT1 −900 and ΔT 0, the amplitudes of the full edition and of Δψ, without their signs, add up to 70,447,118 units, and at no accepted instant
 -- to more.
 use mathlib.Core.Path.{◌≡◌, refl}

@@ -1,5 +1,5 @@
 -- Demand 3, second half: the short way round, s and the polynomial longitude of an accepted instant are no more units apart than its edition's tolerance
--- says, whatever the aberration: 4 in the short edition, and in the full one request 7′s bound, which comes to 5 (EditionBound.antt). The figure of the
+-- says, whatever the aberration: 4 in the short edition, and in the full one request 7's bound, which comes to 5 (EditionBound.antt). The figure of the
 -- short edition follows by computation from the lists of terms and the sine's tolerance: the law gives 3 units for the first sum and 1 for Δψ, and so 4
 -- and nothing less. Another list of terms, or another table, changes the figure here and no proof. No bound below 2 holds:
 -- `two-apart` (crate worked_longitudes) is the instant that comes as near to the bound as any known, 1994-03-22 13:19:32.701 with DUT1 and ΔT 0.

@@ -18,7 +18,7 @@ mean_longitude arguments = get_or arguments L (pos 0)
 unfoldable pub aberration : ℤ
 aberration = arc_seconds (plus 20_496 3)
 
--- 01′s first sum, by an edition at an epoch: all its terms are rounded together
+-- 01's first sum, by an edition at an epoch: all its terms are rounded together
 unfoldable pub first_sum : ℤ → Epoch → ℤ
 first_sum edition e = table_sum (arguments_for edition e) e.q (terms_of edition)
 
@@ -26,12 +26,12 @@ first_sum edition e = table_sum (arguments_for edition e) e.q (terms_of edition)
 unfoldable pub longitude_by : List Term → ℤ → List ℤ → ℤ → ℕ
 longitude_by terms aberration arguments q = reduced (mean_longitude arguments +ℤ table_sum arguments q terms +ℤ dpsi arguments q -ℤ aberration)
 
--- the same with R-as-P for the sine, in the first sum and in Δψ
+-- the same with R·P for the sine, in the first sum and in Δψ
 unfoldable pub polynomial_by : List Term → ℤ → List ℤ → ℤ → ℕ
 polynomial_by terms aberration arguments q =
     reduced (mean_longitude arguments +ℤ polynomial_sum arguments q terms +ℤ polynomial_sum arguments q dpsi_terms -ℤ aberration)
 
--- 01′s s and its polynomial longitude, by an edition at an epoch
+-- 01's s and its polynomial longitude, by an edition at an epoch
 unfoldable pub apparent_longitude : ℤ → ℤ → Epoch → ℕ
 apparent_longitude edition aberration e = longitude_by (terms_of edition) aberration (arguments_for edition e) e.q
 
@@ -42,7 +42,7 @@ polynomial_longitude edition aberration e = polynomial_by (terms_of edition) abe
 unfoldable pub equation_of_centre : List ℤ → ℤ → ℤ
 equation_of_centre arguments q = table_sum arguments q centre
 
--- 01′s g
+-- 01's g
 unfoldable pub centre_longitude : List ℤ → ℤ → ℕ
 centre_longitude arguments q = reduced (mean_longitude arguments +ℤ equation_of_centre arguments q)
 

@@ -56,7 +56,7 @@ venus =
 abbrev pub periodic : List Term
 periodic = long_period ++ (moon ++ venus)
 
--- all of them: the terms of 01′s first sum, and of the short edition
+-- all of them: the terms of 01's first sum, and of the short edition
 abbrev pub short_terms : List Term
 short_terms = centre ++ periodic
 

@@ -19,10 +19,10 @@ largest_sum terms = greatest (λ n. amplitudes terms (pos n)) first_millionth (l
 abbrev pub upward : ℕ → ℕ → ℕ
 upward n d = (n + (d - 1)) / d
 
--- request 7′s bound of a list of terms, those of Δψ included: their largest sum times the sine's tolerance over R, rounded up, and 2 units more
+-- request 7's bound of a list of terms, those of Δψ included: their largest sum times the sine's tolerance over R, rounded up, and 2 units more
 unfoldable pub bound_of : List Term → ℕ
 bound_of terms = upward (largest_sum (terms ++ dpsi_terms) * sine_tolerance) R + 2
 
--- of an edition: the short one keeps request 5′s figure, and the other has that bound, which comes to 5 (law `full-bound-is`)
+-- of an edition: the short one keeps request 5's figure, and the other has that bound, which comes to 5 (law `full-bound-is`)
 abbrev pub longitude_tolerance : ℤ → ℕ
 longitude_tolerance edition = cond (is_short edition) 4 (bound_of full_terms)

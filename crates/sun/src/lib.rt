@@ -56,7 +56,7 @@ pub fn equation_of_centre(t: &SineTable, arguments: &[i64], e: Epoch) -> i64
     series::rounded(centre_sum(t, arguments, e.q))
 }
 
-// The mean longitude with the equation of the centre alone, reduced: document 01′s g, for the aberration of a star.
+// The mean longitude with the equation of the centre alone, reduced: document 01's g, for the aberration of a star.
 pub fn centre_longitude(t: &SineTable, arguments: &[i64], e: Epoch) -> u64
     requires { (t.now ≡ entries) × IsArguments arguments.now × InSpan e }
     ensures { (result ≡ centre_longitude arguments.now e.q) × (result < turn) }
@@ -109,7 +109,7 @@ fn full_sum(t: &SineTable, short: i64, arguments: &[i64; arguments::COUNT], e: E
     short + further_sum(t, arguments, e)
 }
 
-// Document 01′s first sum, by an edition at an epoch, in units: all its terms are rounded together.
+// Document 01's first sum, by an edition at an epoch, in units: all its terms are rounded together.
 fn first_sum(t: &SineTable, edition: i64, arguments: &[i64; arguments::COUNT], e: Epoch) -> i64
     requires { (t.now ≡ entries) × (arguments.now ≡ arguments_of e) × InSpan e }
     ensures { (result ≡ first_sum edition e) × (nat_abs result ≤ 2 ^ 29) }

@@ -1,4 +1,4 @@
--- 01′s vector is a direction in the plane of the first and third axes, rotated by R3(−α).
+-- 01's vector is a direction in the plane of the first and third axes, rotated by R3(−α).
 use mathlib.Core.Path.{◌≡◌, ap, ap₂, ◌∙◌}
 use mathlib.Core.List.{[], ◌∷◌}
 use Prim.Native.Nat.{◌≤◌}

@@ -1,4 +1,4 @@
--- Three rotations, in 01′s order.
+-- Three rotations, in 01's order.
 use mathlib.Core.Path.{◌≡◌}
 use native.Mathlib.Omega.{arith}
 use lib.IntN.{neg_ℤ}

@@ -1,4 +1,4 @@
--- Three rotations, in 01′s order.
+-- Three rotations, in 01's order.
 use native.Mathlib.Omega.{arith}
 use mir.Facts.{to_z-of_z}
 use borrow.Author.Rules.{rules}
