@@ -5,9 +5,8 @@ use native.Mathlib.Omega.{arith}
 use lib.IntN.{nat_abs}
 use lib.ListN.{take}
 use mir.Facts.{to_z-of_z}
-use borrow.Author.Rules.{rules}
 use Rattle.calendar.specs.Date.{leap_year, months, total, month_days, year_days, day_count}
-use Rattle.calendar.proofs.AcceptedRange.{month-range, date-range}
+use Rattle.calendar.proofs.AcceptedRange.{month-range}
 use Rattle.calendar.proofs.day_count.Goals.{After-magnitude, After-magnitude-m, Start}
 use Rattle.calendar.proofs.day_count.Goals as goal
 

@@ -2,7 +2,6 @@ use mathlib.Core.Path.{◌≡◌}
 use native.Mathlib.Omega.{arith}
 use lib.IntN.{nat_abs}
 use mir.Facts.{to_z-of_z}
-use borrow.Author.Rules.{rules}
 use Rattle.calendar.specs.Time.{day_millisecond}
 use Rattle.calendar.proofs.day_millisecond.Goals.{After-magnitude, After-magnitude-2, After-magnitude-3}
 use Rattle.calendar.proofs.day_millisecond.Goals as goal

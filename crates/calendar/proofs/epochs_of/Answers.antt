@@ -1,5 +1,5 @@
 -- An epoch of N, and one of N with ΔT; both lie in the span.
-use mathlib.Core.Path.{◌≡◌, refl, ap₂}
+use mathlib.Core.Path.{◌≡◌, refl}
 use mathlib.Core.Bool.{true}
 use Prim.Native.Nat.{◌^◌}
 use lib.IntN.{ℤ, ◌+ℤ◌}

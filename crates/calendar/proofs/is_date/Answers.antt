@@ -6,7 +6,6 @@ use lib.IntN.{pos, nat_abs}
 use mir.Facts.{to_z-of_z}
 use mir.Syntax.{w64}
 use mir.Val.{SFits}
-use borrow.Author.Rules.{rules}
 use Rattle.exact.specs.Range.{between}
 use Rattle.exact.proofs.Machine.{between-nat}
 use Rattle.calendar.specs.Date.{month_length, is_date}

@@ -22,7 +22,7 @@ returns-then-between-2 c =
     let h = simp (to_z-of_z, r.hour) at c.magnitude-then-between-2-2.ensures in
     let m = simp (to_z-of_z, r.minute) at c.magnitude-then-between-2-3.ensures in
     let last : c.last_millisecond.result ≡ last_millisecond (nat_abs a.month) (nat_abs a.day) (nat_abs a.hour) (nat_abs a.minute) =
-        cc (c.last_millisecond.ensures.0, month, day, h, m) in
+    cc (c.last_millisecond.ensures.0, month, day, h, m) in
     let f : SFits w64 (pos c.last_millisecond.result) = record { sfits = omega (arith, c.last_millisecond.ensures.1) } in
     let e = simp (to_z-of_z, r.millisecond, f) at c.between-then-between-2.ensures in
     simp (sym hour ∙ c.if-between.true, sym minute ∙ c.if-between-2.true)

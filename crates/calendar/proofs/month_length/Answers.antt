@@ -1,8 +1,6 @@
 use mathlib.Core.Path.{sym, ◌∙◌}
-use mathlib.Core.Bool.{false}
 use Prim.Native.Nat.{◌-◌}
 use native.Mathlib.Omega.{arith}
-use borrow.Author.Rules.{rules}
 use Rattle.calendar.specs.Date.{leap_year, month_length}
 use Rattle.calendar.proofs.Count.{other-month, month}
 use Rattle.calendar.proofs.month_length.Goals as goal

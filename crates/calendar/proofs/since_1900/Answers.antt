@@ -2,7 +2,6 @@
 use Prim.Native.Nat.{◌+◌, ◌*◌}
 use lib.IntN.{pos}
 use mir.Facts.{to_z-of_z}
-use borrow.Author.Rules.{rules}
 use Rattle.calendar.specs.Time.{since1900}
 use Rattle.calendar.proofs.AcceptedRange.{Sizes, sizes}
 use Rattle.calendar.proofs.since_1900.Goals.{Start}

@@ -1,5 +1,4 @@
 use native.Mathlib.Omega.{arith}
-use borrow.Author.Rules.{rules}
 use Rattle.calendar.proofs.Count.{year-days}
 use Rattle.calendar.proofs.year_days.Goals as goal
 

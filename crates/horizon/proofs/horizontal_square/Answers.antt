@@ -4,7 +4,6 @@ use native.Mathlib.Nat.{mul-le-mul}
 use native.Mathlib.Omega.{arith}
 use lib.IntN.{nat_abs}
 use mir.Facts.{to_z-of_z}
-use borrow.Author.Rules.{rules}
 use Rattle.rotation.specs.Sizes.{component_most}
 use Rattle.horizon.specs.Horizon.{horizontal_square}
 use Rattle.horizon.proofs.horizontal_square.Goals.{After-magnitude-e, Start}

@@ -5,7 +5,6 @@ use native.Mathlib.Omega.{arith}
 use mir.Facts.{to_z-of_z}
 use mir.Syntax.{w64}
 use mir.Val.{SFits}
-use borrow.Author.Rules.{rules}
 use Rattle.exact.specs.Nth.{nth}
 use Rattle.exact.proofs.Machine.{fits_le, fits_lt}
 use Rattle.rotation.specs.Sizes.{Bounded, component_most}

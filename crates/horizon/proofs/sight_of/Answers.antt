@@ -8,7 +8,6 @@ use lib.Signed.{lt_z}
 use mir.Facts.{to_z-of_z}
 use mir.Syntax.{w64}
 use mir.Val.{to_z}
-use borrow.Author.Rules.{rules}
 use borrow.Author.Tests.{lt-ltb, le-ltb}
 use Rattle.exact.specs.Largest.{root}
 use Rattle.exact.proofs.Machine.{negated, as-signed}

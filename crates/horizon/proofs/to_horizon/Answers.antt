@@ -3,9 +3,8 @@ use mathlib.Core.Path.{◌≡◌}
 use native.Mathlib.Omega.{arith}
 use lib.IntN.{neg_ℤ}
 use lib.ListN.{length}
-use mir.Facts.{to_z-of_z}
 use borrow.Author.Rules.{rules}
-use Rattle.exact.proofs.Machine.{held, negated}
+use Rattle.exact.proofs.Machine.{held}
 use Rattle.rotation.specs.Rotation.{rotation2}
 use Rattle.rotation.proofs.Components.{rotated-back}
 use Rattle.horizon.proofs.ToHorizon.{to-horizon-is}

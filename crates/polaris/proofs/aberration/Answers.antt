@@ -7,12 +7,9 @@ use lib.IntN.{ℤ, pos, neg_ℤ, nat_abs, ◌-ℤ◌}
 use mir.Facts.{to_z-of_z}
 use mir.Syntax.{w64}
 use mir.Val.{SFits}
-use borrow.Author.Rules.{rules}
-use Rattle.exact.specs.Reduction.{reduced}
 use Rattle.exact.proofs.Machine.{held, held-is, ok-fits, negated}
 use Rattle.sine_table.specs.Table.{R}
 use Rattle.sine.specs.Sine.{Sin, Cos}
-use Rattle.rotation.specs.Rotation.{sin_of, cos_of}
 use Rattle.rotation.specs.Sizes.{Bounded}
 use Rattle.rotation.proofs.Sizes.{bounded}
 use Rattle.polaris.specs.Apparent.{scaled, aberration_parts, aberration}
@@ -47,9 +44,9 @@ returns c =
     let k = c.sin in
     let e = simp (to_z-of_z, c.ranges.epsilon) at c.reduced_bounded-e.ensures.0 in
     let y = inner g w.result c.scaled.result c.cos.result _ (ok-fits _ w.type_inv) (ok-fits _ c.cos.type_inv) w.ensures.1 w.ensures.0 c.scaled.ensures
-        (c.cos.ensures.0 ∙ ap Cos e) in
+    (c.cos.ensures.0 ∙ ap Cos e) in
     let z = inner g w.result c.scaled-2.result c.sin-2.result _ (ok-fits _ w.type_inv) (ok-fits _ c.sin-2.type_inv) w.ensures.1 w.ensures.0 c.scaled-2.ensures
-        (c.sin-2.ensures.value ∙ ap Sin e) in
+    (c.sin-2.ensures.value ∙ ap Sin e) in
     let ex = component c.scaled-x.result k.result _ (ok-fits _ k.type_inv) c.scaled-x.ensures k.ensures.value in
     let ey = component c.scaled-y.result c.scaled.result _ (ok-fits _ c.scaled.type_inv) c.scaled-y.ensures y.0 in
     let ez = component c.scaled-z.result c.scaled-2.result _ (ok-fits _ c.scaled-2.type_inv) c.scaled-z.ensures z.0 in

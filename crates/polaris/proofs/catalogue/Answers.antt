@@ -7,7 +7,6 @@ use lib.IntN.{ℤ, pos, neg_ℤ, ◌+ℤ◌, ◌*ℤ◌}
 use mir.Facts.{to_z-of_z}
 use mir.Syntax.{w64}
 use mir.Val.{SFits}
-use borrow.Author.Rules.{rules}
 use Rattle.exact.specs.Reduction.{reduced}
 use Rattle.exact.specs.Division.{nearest_div}
 use Rattle.exact.proofs.Differences.{split, zs}

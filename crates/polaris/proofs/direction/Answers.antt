@@ -1,6 +1,5 @@
 use native.Mathlib.Omega.{arith}
 use mir.Facts.{to_z-of_z}
-use borrow.Author.Rules.{rules}
 use Rattle.exact.proofs.Machine.{ok-fits}
 use Rattle.polaris.specs.Apparent.{direction}
 use Rattle.polaris.proofs.direction.Goals as goal

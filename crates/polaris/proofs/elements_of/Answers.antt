@@ -6,7 +6,6 @@ use lib.IntN.{ℤ, nat_abs, ◌+ℤ◌}
 use mir.Facts.{to_z-of_z}
 use mir.Syntax.{w64}
 use mir.Val.{SFits}
-use borrow.Author.Rules.{rules}
 use Rattle.exact.proofs.Differences.{split, zs}
 use Rattle.exact.proofs.Machine.{held}
 use Rattle.secular.specs.FlooredPolynomial.{value}

@@ -3,8 +3,7 @@ use mathlib.Core.Path.{◌≡◌}
 use native.Mathlib.Omega.{arith}
 use lib.IntN.{neg_ℤ}
 use mir.Facts.{to_z-of_z}
-use borrow.Author.Rules.{rules}
-use Rattle.exact.proofs.Machine.{held, negated}
+use Rattle.exact.proofs.Machine.{held}
 use Rattle.rotation.specs.Rotation.{rotation1}
 use Rattle.rotation.proofs.Components.{rotated-back}
 use Rattle.polaris.specs.Apparent.{nutated}

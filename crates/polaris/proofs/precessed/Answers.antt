@@ -1,7 +1,6 @@
 -- Three rotations, in 01's order.
 use native.Mathlib.Omega.{arith}
 use mir.Facts.{to_z-of_z}
-use borrow.Author.Rules.{rules}
 use Rattle.polaris.specs.Apparent.{precessed}
 use Rattle.polaris.proofs.precessed.Goals as goal
 

@@ -4,7 +4,6 @@ use native.Mathlib.Omega.{arith}
 use mir.Facts.{to_z-of_z}
 use mir.Syntax.{w64}
 use mir.Val.{SFits}
-use borrow.Author.Rules.{rules}
 use Rattle.exact.proofs.Machine.{fits_lt}
 use Rattle.polaris.specs.Apparent.{true_direction}
 use Rattle.polaris.specs.Sizes.{ElementsSized}

@@ -33,10 +33,10 @@ pub returns-then-not-is_list : goal.returns-then-not-is_list
 unfolding choice
 returns-then-not-is_list c =
     let fails : (is_list c.args.first.now && is_list c.args.second.now) ≡ false =
-        elim c.then-not-is_list.branch [
-          then-not-is_list-via-then-not-is_list w ↦ first-fails _ _ (sym c.is_list.ensures ∙ w.if-not-is_list.true)
-          | then-not-is_list-via-else-not-is_list+then-not-is_list-2 w ↦ second-fails (is_list c.args.first.now) _ (sym w.is_list-else-not-is_list.ensures ∙ w.if-not-is_list-2.true)
-        ] in
+    elim c.then-not-is_list.branch [
+      | then-not-is_list-via-then-not-is_list w ↦ first-fails _ _ (sym c.is_list.ensures ∙ w.if-not-is_list.true)
+      | then-not-is_list-via-else-not-is_list+then-not-is_list-2 w ↦ second-fails (is_list c.args.first.now) _ (sym w.is_list-else-not-is_list.ensures ∙ w.if-not-is_list-2.true)
+    ] in
     simp fails
 
 pub returns-in_default : goal.returns-in_default

@@ -42,10 +42,10 @@ returns-then-not-is_reduced c =
     let most = sym (along-end larger l _ c.loop-i.i (omega arith)) ∙ c.loop-i.invariant.0 in
     let least = sym (along-end smaller l _ c.loop-i.i (omega arith)) ∙ c.loop-i.invariant.1 in
     let fails : (is_reduced (smallest l) && is_reduced (largest l)) ≡ false =
-        elim c.then-not-is_reduced.branch [
-          then-not-is_reduced-via-then-not-is_reduced w ↦ first-fails _ _ (sym (c.is_reduced.ensures ∙ ap is_reduced least) ∙ w.if-not-is_reduced.true)
-          | then-not-is_reduced-via-else-not-is_reduced+then-not-is_reduced-2 w ↦ second-fails (is_reduced (smallest l)) _ (sym (w.is_reduced-else-not-is_reduced.ensures ∙ ap is_reduced most) ∙ w.if-not-is_reduced-2.true)
-        ] in
+    elim c.then-not-is_reduced.branch [
+      | then-not-is_reduced-via-then-not-is_reduced w ↦ first-fails _ _ (sym (c.is_reduced.ensures ∙ ap is_reduced least) ∙ w.if-not-is_reduced.true)
+      | then-not-is_reduced-via-else-not-is_reduced+then-not-is_reduced-2 w ↦ second-fails (is_reduced (smallest l)) _ (sym (w.is_reduced-else-not-is_reduced.ensures ∙ ap is_reduced most) ∙ w.if-not-is_reduced-2.true)
+    ] in
     simp (sym (ends-decide l c.requires) ∙ fails)
 
 -- ---- both are angles
