@@ -11,7 +11,7 @@ returns-then-c-lt48 c =
     record {
       value =
           digit_low l c.loop-i.i c.loop-i-test.true c.loop-i.n (omega arith)
-          ∙ c.loop-i.invariant.2 ∙ right-length c.args.most l c.if-s-lt1.false c.if-most-s.false;
+          ∙ c.loop-i.invariant.2 ∙ right-length c.args.most l (omega arith) c.if-most-s.false;
       below = tt;
     }
 
@@ -22,7 +22,7 @@ returns-then-c-gt57 c =
     record {
       value =
           digit-high l c.loop-i.i c.loop-i-test.true c.loop-i.n (omega arith) (omega arith)
-          ∙ c.loop-i.invariant.2 ∙ right-length c.args.most l c.if-s-lt1.false c.if-most-s.false;
+          ∙ c.loop-i.invariant.2 ∙ right-length c.args.most l (omega arith) c.if-most-s.false;
       below = tt;
     }
 
@@ -49,6 +49,6 @@ returns c =
     record {
       value =
           digits-end c.args.s.now c.loop-i.i c.loop-i.n c.loop-i-test.false
-          ∙ c.loop-i.invariant.2 ∙ right-length c.args.most c.args.s.now c.if-s-lt1.false c.if-most-s.false;
+          ∙ c.loop-i.invariant.2 ∙ right-length c.args.most c.args.s.now (omega arith) c.if-most-s.false;
       below = at-most-eighteen c.loop-i.n c.loop-i.i c.loop-i.invariant.1 (omega (arith, c.requires));
     }
