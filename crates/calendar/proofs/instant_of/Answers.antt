@@ -5,6 +5,7 @@ use lib.IntN.{ℤ}
 use mir.Facts.{to_z-of_z}
 use mir.Syntax.{w64}
 use mir.Val.{SFits}
+use borrow.Author.Rules.{rules}
 use Rattle.exact.proofs.Machine.{ok-fits}
 use Rattle.calendar.specs.Time.{is_dut1, is_delta_t, since1900, instant, epochs_of, accepted, instant_of}
 use Rattle.calendar.specs.declared.CivilTime.{CivilTime}
@@ -20,32 +21,14 @@ Fit t =
 pub returns-then-not-is_date : goal.returns-then-not-is_date
 unfolding instant_of
 returns-then-not-is_date c =
-    let f : Fit c.args.t = (
-      record { sfits = omega arith },
-      record { sfits = omega arith },
-      record { sfits = omega arith },
-      record { sfits = omega arith },
-      record { sfits = omega arith },
-      record { sfits = omega arith },
-      record { sfits = omega arith },
-      record { sfits = omega arith },
-    ) in
+    let f : Fit c.args.t = search rules in
     let e = simp (to_z-of_z, f.0, f.1, f.2) at c.is_date.ensures in
     (simp (sym e ∙ c.if-not-is_date.true), tt)
 
 pub returns-then-not-is_time : goal.returns-then-not-is_time
 unfolding instant_of
 returns-then-not-is_time c =
-    let f : Fit c.args.t = (
-      record { sfits = omega arith },
-      record { sfits = omega arith },
-      record { sfits = omega arith },
-      record { sfits = omega arith },
-      record { sfits = omega arith },
-      record { sfits = omega arith },
-      record { sfits = omega arith },
-      record { sfits = omega arith },
-    ) in
+    let f : Fit c.args.t = search rules in
     let date = simp (to_z-of_z, f.0, f.1, f.2) at c.is_date.ensures in
     let time = simp (to_z-of_z, f.1, f.2, f.3, f.4, f.5) at c.is_time.ensures in
     (simp (sym date ∙ c.if-not-is_date.false, sym time ∙ c.if-not-is_time.true), tt)
@@ -53,16 +36,7 @@ returns-then-not-is_time c =
 pub returns-then-not-between : goal.returns-then-not-between
 unfolding instant_of is_dut1
 returns-then-not-between c =
-    let f : Fit c.args.t = (
-      record { sfits = omega arith },
-      record { sfits = omega arith },
-      record { sfits = omega arith },
-      record { sfits = omega arith },
-      record { sfits = omega arith },
-      record { sfits = omega arith },
-      record { sfits = omega arith },
-      record { sfits = omega arith },
-    ) in
+    let f : Fit c.args.t = search rules in
     let date = simp (to_z-of_z, f.0, f.1, f.2) at c.is_date.ensures in
     let time = simp (to_z-of_z, f.1, f.2, f.3, f.4, f.5) at c.is_time.ensures in
     let dut1 = simp (to_z-of_z, f.6) at c.between.ensures in
@@ -71,16 +45,7 @@ returns-then-not-between c =
 pub returns-then-not-between-2 : goal.returns-then-not-between-2
 unfolding instant_of is_dut1 is_delta_t
 returns-then-not-between-2 c =
-    let f : Fit c.args.t = (
-      record { sfits = omega arith },
-      record { sfits = omega arith },
-      record { sfits = omega arith },
-      record { sfits = omega arith },
-      record { sfits = omega arith },
-      record { sfits = omega arith },
-      record { sfits = omega arith },
-      record { sfits = omega arith },
-    ) in
+    let f : Fit c.args.t = search rules in
     let date = simp (to_z-of_z, f.0, f.1, f.2) at c.is_date.ensures in
     let time = simp (to_z-of_z, f.1, f.2, f.3, f.4, f.5) at c.is_time.ensures in
     let dut1 = simp (to_z-of_z, f.6) at c.between.ensures in
@@ -89,16 +54,7 @@ returns-then-not-between-2 c =
 
 pub day_millisecond-ms-requires : goal.day_millisecond-ms-requires
 day_millisecond-ms-requires c =
-    let f : Fit c.args.t = (
-      record { sfits = omega arith },
-      record { sfits = omega arith },
-      record { sfits = omega arith },
-      record { sfits = omega arith },
-      record { sfits = omega arith },
-      record { sfits = omega arith },
-      record { sfits = omega arith },
-      record { sfits = omega arith },
-    ) in
+    let f : Fit c.args.t = search rules in
     let t = c.args.t in
     let time = simp (to_z-of_z, f.1, f.2, f.3, f.4, f.5) at c.is_time.ensures in
     simp (to_z-of_z, f.3, f.4, f.5) (time-range t.month t.day t.hour t.minute t.millisecond (sym time ∙ c.if-not-is_time.false))
@@ -106,16 +62,7 @@ day_millisecond-ms-requires c =
 pub since_1900-requires : goal.since_1900-requires
 unfolding is_dut1
 since_1900-requires c =
-    let f : Fit c.args.t = (
-      record { sfits = omega arith },
-      record { sfits = omega arith },
-      record { sfits = omega arith },
-      record { sfits = omega arith },
-      record { sfits = omega arith },
-      record { sfits = omega arith },
-      record { sfits = omega arith },
-      record { sfits = omega arith },
-    ) in
+    let f : Fit c.args.t = search rules in
     let t = c.args.t in
     let date = simp (to_z-of_z, f.0, f.1, f.2) at c.is_date.ensures in
     let time = simp (to_z-of_z, f.1, f.2, f.3, f.4, f.5) at c.is_time.ensures in
@@ -130,32 +77,14 @@ since_1900-requires c =
 pub epochs_of-requires : goal.epochs_of-requires
 unfolding is_delta_t
 epochs_of-requires c =
-    let f : Fit c.args.t = (
-      record { sfits = omega arith },
-      record { sfits = omega arith },
-      record { sfits = omega arith },
-      record { sfits = omega arith },
-      record { sfits = omega arith },
-      record { sfits = omega arith },
-      record { sfits = omega arith },
-      record { sfits = omega arith },
-    ) in
+    let f : Fit c.args.t = search rules in
     let delta_t = simp (to_z-of_z, f.7) at c.between-2.ensures in
     simp (to_z-of_z, ok-fits c.since_1900.result c.since_1900.type_inv, f.7) (c.since_1900.ensures.1, sym delta_t ∙ c.if-not-between-2.false)
 
 pub returns : goal.returns
 unfolding instant_of is_dut1 is_delta_t instant
 returns c =
-    let f : Fit c.args.t = (
-      record { sfits = omega arith },
-      record { sfits = omega arith },
-      record { sfits = omega arith },
-      record { sfits = omega arith },
-      record { sfits = omega arith },
-      record { sfits = omega arith },
-      record { sfits = omega arith },
-      record { sfits = omega arith },
-    ) in
+    let f : Fit c.args.t = search rules in
     let date = simp (to_z-of_z, f.0, f.1, f.2) at c.is_date.ensures in
     let time = simp (to_z-of_z, f.1, f.2, f.3, f.4, f.5) at c.is_time.ensures in
     let dut1 = simp (to_z-of_z, f.6) at c.between.ensures in
