@@ -1,0 +1,6 @@
+use mir.Facts.{to_z-of_z}
+use borrow.Author.Rules.{rules}
+use Rattle.pointing.proofs.pointing.Goals as goal
+
+pub returns : goal.returns
+returns c = simp (to_z-of_z, c.ranges.angle) at c.pointing_with.ensures
