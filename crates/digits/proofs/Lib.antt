@@ -4,5 +4,3 @@ pub mod NoLeadingZero
 pub mod TellsApart
 pub mod Decimal
 pub mod Lists
-pub mod Signs
-pub mod Writes

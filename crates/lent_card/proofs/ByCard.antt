@@ -3,13 +3,8 @@ use mathlib.Core.Path.{◌≡◌, refl, sym, ap, ◌∙◌}
 use mathlib.Core.Bool.{Bool, true, false, cond}
 use mathlib.Core.List.{List}
 use Prim.Native.Nat.{ℕ}
-use lib.Dec.{eqb}
 use lib.IntN.{ℤ}
-use lib.ListN.{length}
-use borrow.Author.Tests.{eqb-true}
-use Rattle.exact.proofs.Machine.{and-true}
-use Rattle.card.specs.Calls.{CardValues}
-use Rattle.card_words.specs.Words.{word_count, card_words, is_card, card_of, whole_card, no_card, restored_from}
+use Rattle.card_words.specs.Words.{is_card, card_of, whole_card, no_card, restored_from}
 use Rattle.card.specs.declared.Card.{Card}
 use Rattle.card_words.specs.declared.Restored.{Restored}
 use Rattle.card.proofs.Clash.{clash}
@@ -41,18 +36,6 @@ module _ (ws : List ℤ) (r : Restored) (restored : r ≡ restored_from ws) wher
     pub card-is : r.card ≡ card_of ws
     card-is = ap (λ r. r.card) restored ∙ restored-card (is_card ws) (card_of ws) (is-card ∙ w)
 
-    pub long-enough : length ws ≡ word_count
-    long-enough = eqb-true (length ws) word_count (and-true (eqb (length ws) word_count) _ (is-card ∙ w)).0
-
   -- and so what is answered
-  pub without : {A : Type 0} (answer : Card → A) (refused : ℕ → A) → r.whole ≡ false → refused LentCard.no_card ≡ with_card ws answer refused
-  without answer refused w = sym (on_none ws answer refused (is-card ∙ w))
-
   pub with : {A : Type 0} (answer : Card → A) (refused : ℕ → A) → r.whole ≡ true → answer r.card ≡ with_card ws answer refused
   with answer refused w = ap answer (card-is w) ∙ sym (on-card ws answer refused (is-card ∙ w))
-
-  -- a call, whose number and card come back as n and l
-  pub called : (call : Card → CardValues) (n : ℕ) (l : List ℤ) (v : CardValues) → r.whole ≡ true → n ≡ v.refusal → l ≡ card_words v.card
-      → v ≡ call r.card → words_values n l ≡ call_words ws call
-  called call n l v w e k a =
-      (λ j. words_values (e j) (k j)) ∙ ap into_words a ∙ with (λ c. into_words (call c)) (λ k. words_values k ws) w
