@@ -6,7 +6,6 @@ use lib.IntN.{ℤ, pos}
 use mir.Syntax.{w64}
 use mir.Val.{SFits}
 use Rattle.exact.proofs.Machine.{fits_lt, fits_le}
-use Rattle.frame.specs.Nutation.{epsilon}
 use Rattle.sun.specs.Longitude.{aberration, apparent_longitude, centre_longitude}
 use Rattle.sun.specs.Direction as Sun
 use Rattle.polaris.specs.Apparent as Polaris

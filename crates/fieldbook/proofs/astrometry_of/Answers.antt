@@ -4,7 +4,6 @@ use Prim.Native.Nat.{◌^◌}
 use mir.Facts.{to_z-of_z}
 use mir.Syntax.{w64}
 use mir.Val.{SFits}
-use borrow.Author.Rules.{rules}
 use Rattle.exact.proofs.Machine.{fits_lt, fits_le}
 use Rattle.frame.specs.FrameContract.{IsFrame}
 use Rattle.frame.specs.declared.Frame.{Frame}
@@ -19,10 +18,10 @@ returns c =
     let dpsi-fits : SFits w64 f.dpsi = fits_le (2 ^ 20) f.dpsi frame_is.dpsi-size refl in
     let epsilon-fits : SFits w64 f.epsilon = fits_lt (2 ^ 35) f.epsilon frame_is.epsilon-size refl in
     let sidereal-is : c.sidereal_time-sidereal.result ≡ sidereal_at c.args.epochs =
-        (let e = simp (to_z-of_z, dpsi-fits, epsilon-fits) at c.sidereal_time-sidereal.ensures.0 in
-        let a = c.arguments_of-arguments.ensures.0 in
-        let n = frame_is.dpsi in
-        let o = frame_is.epsilon in cc) in (
+    (let e = simp (to_z-of_z, dpsi-fits, epsilon-fits) at c.sidereal_time-sidereal.ensures.0 in
+    let a = c.arguments_of-arguments.ensures.0 in
+    let n = frame_is.dpsi in
+    let o = frame_is.epsilon in cc) in (
       refl,
       record {
         span = c.requires.1.1;

@@ -1,13 +1,10 @@
 -- Each number of the list is the field of its index, and the list is long enough for all of them.
 use mathlib.Core.Path.{refl}
-use Prim.Native.Nat.{ℕ, ◌^◌, ◌<◌}
 use native.Mathlib.Omega.{arith}
-use lib.Signed.{mag}
 use mir.Facts.{to_z-of_z}
 use mir.Syntax.{w64}
 use mir.Val.{SFits}
 use Rattle.exact.specs.Nth.{nth}
-use Rattle.exact.proofs.Machine.{ok-fits}
 use Rattle.fieldbook.specs.Shot.{numbers_of}
 use Rattle.fieldbook.proofs.numbers_of.Goals as goal
 

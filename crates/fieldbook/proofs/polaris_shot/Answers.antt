@@ -2,7 +2,6 @@
 use mathlib.Core.Path.{refl}
 use native.Mathlib.Omega.{arith}
 use mir.Facts.{to_z-of_z}
-use borrow.Author.Rules.{rules}
 use Rattle.fieldbook.specs.Parts.{polaris_shot}
 use Rattle.fieldbook.proofs.Bodies.{epsilon0-fits, dpsi-fits, epsilon-fits, polaris-is, shot-is}
 use Rattle.fieldbook.proofs.polaris_shot.Goals as goal

@@ -4,7 +4,6 @@ use Prim.Native.Nat.{◌-◌}
 use native.Mathlib.Omega.{arith}
 use lib.ListN.{length, drop, length-drop}
 use lib.Seq.{take_all}
-use borrow.Author.Rules.{rules}
 use Rattle.fieldbook.specs.Shot.{numbers_of, options_of, query, query_of}
 use Rattle.fieldbook.specs.declared.Options.{Options}
 use Rattle.fieldbook.proofs.query_of.Goals as goal

@@ -1,6 +1,5 @@
 -- The numbers are those of the fields.
 use mathlib.Core.Path.{ap}
-use borrow.Author.Rules.{rules}
 use Rattle.fieldbook.specs.Shot.{query}
 use Rattle.fieldbook.specs.declared.Numbers.{Numbers}
 use Rattle.fieldbook.proofs.query_with.Goals as goal

@@ -1,10 +1,8 @@
 -- The site's answer decides, by the laws of `Decided`.
-use mathlib.Core.Path.{◌≡◌, sym, ap, subst, ◌∙◌}
+use mathlib.Core.Path.{sym, ap, subst, ◌∙◌}
 use mir.Facts.{to_z-of_z}
-use borrow.Author.Rules.{rules}
-use Rattle.site.specs.Site.{located_values, position_of}
+use Rattle.site.specs.Site.{located_values}
 use Rattle.site.specs.Sizes.{LocatedSized}
-use Rattle.site.specs.declared.Located.{Located}
 use Rattle.fieldbook.proofs.Decided.{refused-reduced, refused-site, accepted-site}
 use Rattle.fieldbook.proofs.shot_at.Goals as goal
 

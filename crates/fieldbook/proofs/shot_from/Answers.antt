@@ -6,8 +6,6 @@ use lib.IntN.{ℤ}
 use mir.Facts.{to_z-of_z}
 use mir.Syntax.{w64}
 use mir.Val.{SFits}
-use borrow.Author.Rules.{rules}
-use borrow.Author.Tests.{not-true, not-false}
 use Rattle.calendar.specs.declared.Epochs.{Epochs}
 use Rattle.sun.specs.Editions.{is_edition}
 use Rattle.site.specs.declared.Position.{Position}

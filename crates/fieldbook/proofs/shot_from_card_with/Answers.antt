@@ -1,7 +1,5 @@
 -- Refusal 1, or the shot with the confirmed numbers; the card is not touched.
 use mathlib.Core.Path.{◌≡◌, sym, ap, ◌∙◌}
-use native.Mathlib.Omega.{arith}
-use borrow.Author.Rules.{rules}
 use Rattle.refusal.specs.RefusalNumbers.{verdict_number}
 use Rattle.card.specs.Confirmed.{ConfirmedValues}
 use Rattle.fieldbook.specs.Shot.{shot}

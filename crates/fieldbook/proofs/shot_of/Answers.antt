@@ -6,7 +6,6 @@ use lib.IntN.{ℤ, pos, ℤ_discrete}
 use mir.Syntax.{w64}
 use mir.Facts.{to_z-of_z}
 use mir.Val.{SFits, to_z, of_z}
-use borrow.Author.Rules.{rules}
 use Rattle.exact.proofs.Choice.{not-decided}
 use Rattle.calendar.specs.declared.Epochs.{Epochs}
 use Rattle.site.specs.declared.Position.{Position}

@@ -1,13 +1,11 @@
 -- The calendar's answer decides, by the laws of `Decided`.
-use mathlib.Core.Path.{◌≡◌, sym, ap, subst, ◌∙◌}
+use mathlib.Core.Path.{sym, ap, subst, ◌∙◌}
 use native.Mathlib.Omega.{arith}
 use mir.Facts.{to_z-of_z}
 use mir.Syntax.{w64}
 use mir.Val.{SFits}
-use borrow.Author.Rules.{rules}
-use Rattle.calendar.specs.Time.{instant_values, instant_of}
+use Rattle.calendar.specs.Time.{instant_values}
 use Rattle.calendar.specs.Sizes.{InstantSized}
-use Rattle.calendar.specs.declared.Instant.{Instant}
 use Rattle.fieldbook.specs.Parts.{shot_at}
 use Rattle.fieldbook.proofs.Decided.{refused-reduced, refused-instant, accepted-instant}
 use Rattle.fieldbook.proofs.shot_with.Goals as goal

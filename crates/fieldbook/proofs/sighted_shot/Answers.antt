@@ -1,6 +1,5 @@
 -- What a sight was refused with is handed on, and what was seen is answered.
 use mathlib.Core.Path.{refl, sym, ap, subst, ◌∙◌}
-use borrow.Author.Rules.{rules}
 use Rattle.horizon.specs.Horizon.{sight_values}
 use Rattle.horizon.specs.Sizes.{SightReduced}
 use Rattle.horizon.specs.declared.Sighting.TheVariants.{Seen}

@@ -1,7 +1,6 @@
 -- Each call gives what the definition names.
 use native.Mathlib.Omega.{arith}
 use mir.Facts.{to_z-of_z}
-use borrow.Author.Rules.{rules}
 use Rattle.exact.specs.Division.{floor_div, nearest_div}
 use Rattle.sun.specs.Longitude.{aberration}
 use Rattle.fieldbook.specs.Parts.{sun_shot}

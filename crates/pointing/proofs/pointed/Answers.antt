@@ -7,8 +7,6 @@ use lib.IntN.{ℤ, pos, nat_abs, ◌-ℤ◌}
 use mir.Facts.{to_z-of_z}
 use mir.Syntax.{w64}
 use mir.Val.{SFits, to_z, of_z}
-use borrow.Author.Rules.{rules}
-use borrow.Author.Tests.{not-true, not-false}
 use Rattle.exact.specs.Reduction.{turn, is_reduced, reduced}
 use Rattle.exact.proofs.Machine.{abs-fits, as-signed, nat-reduced, reduced-apart}
 use Rattle.fieldbook.specs.Shot.{shot_values, ShotReduced}

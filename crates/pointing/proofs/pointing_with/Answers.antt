@@ -1,6 +1,5 @@
 use mathlib.Core.Path.{ap, ◌∙◌}
 use mir.Facts.{to_z-of_z}
-use borrow.Author.Rules.{rules}
 use Rattle.pointing.specs.Pointing.{pointed}
 use Rattle.pointing.proofs.pointing_with.Goals as goal
 
