@@ -7,22 +7,19 @@ use native.Mathlib.Omega.{arith}
 use native.Mathlib.Numerals.{add-one}
 use lib.Dec.{eqb, ltb}
 use lib.IntN.{ℤ}
-use lib.ListN.{length, take, drop, set, length-drop}
+use lib.ListN.{length, take, drop, set}
 use Rattle.std.specs.List.{slice_range}
 use lib.Seq.{take_all, take-suc-set, length-take-le}
 use borrow.Author.Tests.{lt-ltb, le-ltb}
 use Rattle.lines.specs.Numerals.{numeral_of, prefixed, words, row_length, numbers_behind}
 use Rattle.lines.specs.declared.Numeral.TheVariants.{Number, NoNumber}
 use Rattle.lines.specs.Bytes.{index_after, index_of}
-
--- what stands from a place to the end
-pub slice-end : (a : ℕ) (l : List ℕ) → slice_range l a (length l) ≡ drop a l
-slice-end a l = let d = length-drop a l in take_all (length l - a) (drop a l) (omega arith)
+use Rattle.lines.proofs.Parts.{tail-part}
 
 -- a search for a space found the end of what is left's first word
 module _ (s : List ℕ) (from k : ℕ) (found : k ≡ from + index_of 32 (slice_range s from (length s))) where
   pub found-index : k ≡ from + index_of 32 (drop from s)
-  found-index = found ∙ ap (λ l. from + index_of 32 l) (slice-end from s)
+  found-index = found ∙ ap (λ l. from + index_of 32 l) (tail-part from s)
 
   pub word-found : (most : ℕ) → numeral_of most (take (k - from) (drop from s)) ≡ numeral_of most (take (index_of 32 (drop from s)) (drop from s))
   word-found most = let f = found-index in let e : k - from ≡ index_of 32 (drop from s) = omega arith in ap (λ j. numeral_of most (take j (drop from s))) e

@@ -3,7 +3,7 @@ use mathlib.Core.List.{List, ◌++◌, append-nil}
 use Prim.Native.Nat.{ℕ, ◌+◌, ◌-◌, ◌%◌, ◌<◌, ◌≤◌}
 use native.Mathlib.Omega.{arith}
 use lib.ListN.{length, take, drop, set, length-set}
-use Rattle.digits.proofs.Lists.{tail-part}
+use Rattle.lines.proofs.Parts.{tail-part}
 use Rattle.lines.specs.Appending.{decimal_text}
 use Rattle.lines.proofs.Appending.{length_more, some-digit, digit-before, first-digit, at-most-twenty}
 use Rattle.lines.proofs.append_decimal.Goals as goal
