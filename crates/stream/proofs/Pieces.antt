@@ -12,7 +12,7 @@ use Rattle.replies.specs.Answers.{reply, next}
 use Rattle.replies.specs.declared.Protocol.{Protocol}
 use Rattle.stream.specs.Feeding.{Progress, behind, progress, held, kept_length, progress_from, last_reply, Feeds}
 use Rattle.stream.specs.declared.State.{State}
-use Rattle.bytes.specs.Bytes.{index_after, index_of}
+use Rattle.lines.specs.Bytes.{index_after, index_of}
 
 -- output before output
 pub behind-both : (a b : List ℕ) (r : Progress) → behind (a ++ b) r ≡ behind a (behind b r)
@@ -28,7 +28,7 @@ module _ (p : Protocol) (c : Card) where
       → (k < length l → progress p c (begun ++ (b ∷ [])) l ≡ ended (begun ++ (b ∷ [])) k l)
       → cond q (behind (reply p c begun) (progress p (next p c begun) [] l)) (progress p c (begun ++ (b ∷ [])) l)
       ≡ ended begun (index_after q k) (b ∷ l)
-  unfolding ended index_after
+  unfolding ended
   line-by true begun b k l h f = rw append-nil
   line-by false begun b k l h f = f (omega arith) ∙ rw append_assoc
 
@@ -43,7 +43,6 @@ module _ (p : Protocol) (c : Card) where
       → (length l ≤ k → progress p c (begun ++ (b ∷ [])) l ≡ record { output = []; card = c; line = (begun ++ (b ∷ [])) ++ l })
       → cond q (behind (reply p c begun) (progress p (next p c begun) [] l)) (progress p c (begun ++ (b ∷ [])) l)
       ≡ record { output = []; card = c; line = begun ++ b ∷ l }
-  unfolding index_after
   rest-by true begun b k l h f = absurd (omega arith)
   rest-by false begun b k l h f =
       f (omega arith) ∙ ap (λ (g : List ℕ). record { output = []; card = c; line = g }) (append_assoc begun (b ∷ []) l)

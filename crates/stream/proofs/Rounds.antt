@@ -2,10 +2,11 @@
 use mathlib.Core.Path.{◌≡◌, ap, ◌∙◌}
 use mathlib.Core.List.{List, [], ◌∷◌, ◌++◌}
 use Prim.Native.Nat.{ℕ}
+use lib.ListN.{take}
 use Rattle.card.specs.Fields.{fresh_card}
 use Rattle.card.specs.declared.Card.{Card}
 use Rattle.replies.specs.declared.Protocol.{Protocol}
-use Rattle.stream.specs.Feeding.{cut, progress_all, progress_from, from_start, held, last_reply, Keeps, Feeds, Reached, Completes}
+use Rattle.stream.specs.Feeding.{cut, kept_length, progress, progress_all, progress_from, from_start, held, last_reply, Keeps, Feeds, Reached, Completes}
 use Rattle.stream.specs.declared.State.{State}
 use Rattle.stream.proofs.AnyChunks.{any-chunks}
 
@@ -21,7 +22,7 @@ module _ (p : Protocol) (s : State) where
   unfolding progress_all
   keeps-more c g [] l t k h = record { card = rw (k.card, k.line) at h.card; line = rw (k.card, k.line) at h.line }
   keeps-more c g (x ∷ chunks) l t k h =
-      let i = keeps-more _ _ chunks l t (record { card = k.card; line = k.line }) h in record { card = i.card; line = i.line }
+      let i = keeps-more (progress p c g x).card (take kept_length (progress p c g x).line) chunks l t (record { card = k.card; line = k.line }) h in record { card = i.card; line = i.line }
 
   -- a round more
   pub one-round : (l : List ℕ) (t : State) (o : List ℕ) → Reached p s → Feeds p s l t o → Reached p t
