@@ -1,7 +1,7 @@
 -- The law of any two lists of terms, request 8: with any function for the sine that is at most k in magnitude, their sums are at most k times as far
 -- apart as their changes come to. So the sums with the sine, each divided by R and rounded once, are no further apart than the dropped amplitudes: whole
 -- numbers that far apart stay so where both are rounded, and the unit more that request 8 allows is not needed.
-use mathlib.Core.Path.{◌≡◌, refl, ap, ◌∙◌}
+use mathlib.Core.Path.{◌≡◌, refl, sym, ap, ap₂, subst⁻¹, ◌∙◌}
 use mathlib.Core.Bool.{Bool, true, false, cond, ◌&&◌}
 use mathlib.Core.List.{List, [], ◌∷◌, ◌++◌, map}
 use Prim.Native.Nat.{ℕ, ◌+◌, ◌*◌, ◌≤◌, ◌<◌}
@@ -70,10 +70,15 @@ module _ (q : ℤ) where
   added-costs [] = refl
   added-costs (u ∷ us) = rw (← steady (pos 0) q, (lone (amplitude_of u q)).0, added-costs us) refl
 
+  gone-cost : (t : Term) → cost q (gone t) ≡ nat_abs (amplitude_of t q)
+  gone-cost t =
+      let a = amplitude_of t q in
+      ap (λ (z : ℤ). nat_abs (z -ℤ a)) (sym (steady (pos 0) q)) ∙ ap nat_abs (lone a).1 ∙ abs_neg a
+
   gone-costs : (ts : List Term) → costs q (map gone ts) ≡ amplitudes ts q
   unfolding costs amplitudes
   gone-costs [] = refl
-  gone-costs (t ∷ ts) = rw (← steady (pos 0) q, (lone (amplitude_of t q)).1, abs_neg (amplitude_of t q), gone-costs ts) refl
+  gone-costs (t ∷ ts) = ap₂ ◌+◌ (gone-cost t) (gone-costs ts)
 
 -- ---- the law
 module _ (f : ℕ → ℤ) (k : ℕ) (bound : (a : ℕ) → a < turn → nat_abs (f a) ≤ k) (arguments : List ℤ) (q : ℤ) where
@@ -144,7 +149,8 @@ module _ (f : ℕ → ℤ) (k : ℕ) (bound : (a : ℕ) → a < turn → nat_abs
 
   pub compared : (ts us : List Term) → Within (sum us) (sum ts) (k * dropped ts us q)
   unfolding total changes
-  compared ts [] = rw (gone-costs q ts) (nothing (sum ts) (k * amplitudes ts q) (total-le f k bound arguments q ts))
+  compared ts [] =
+      nothing (sum ts) (k * dropped ts [] q) (subst⁻¹ (λ (n : ℕ). nat_abs (sum ts) ≤ k * n) (gone-costs q ts) (total-le f k bound arguments q ts))
     where
       nothing : (z : ℤ) (n : ℕ) → nat_abs z ≤ n → Within (pos 0) z n
       nothing z n = rw (split z) (simp zs (omega arith))
