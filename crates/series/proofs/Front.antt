@@ -1,9 +1,9 @@
 -- A sum looks at no argument beyond those that its terms name: with others behind them in the list, it is the same.
 use mathlib.Core.Path.{◌≡◌, refl, ap, ap₂}
-use mathlib.Core.Bool.{Bool, true, ◌&&◌}
+use mathlib.Core.Bool.{◌&&◌}
 use mathlib.Core.List.{List, [], ◌∷◌, ◌++◌}
 use Prim.Native.Nat.{ℕ}
-use lib.Dec.{T, ltb, ltb→lt}
+use lib.Dec.{T, ltb→lt}
 use lib.IntN.{ℤ, pos, ◌+ℤ◌, ◌*ℤ◌}
 use lib.ListN.{length, get_or-append}
 use Rattle.exact.specs.Division.{nearest_div}
@@ -12,14 +12,7 @@ use Rattle.sine_table.specs.Table.{R}
 use Rattle.sine.specs.Sine.{Sin}
 use Rattle.series.specs.Term.{Part, Term, part, amplitude_of, angle_of, value}
 use Rattle.series.specs.Sum.{total, table_sum}
-
--- the terms name the first k arguments alone: a test that antt computes
-abbrev names : ℕ → Part → Bool
-names k p = ltb p.index k
-
-abbrev pub name_first : ℕ → List Term → Bool
-name_first k [] = true
-name_first k (t ∷ ts) = (names k t.first && (names k t.second && names k t.third)) && name_first k ts
+use Rattle.series.proofs.Names.{names, name_first}
 
 module _ (front behind : List ℤ) where
   abbrev k : ℕ

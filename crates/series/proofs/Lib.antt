@@ -4,6 +4,7 @@ pub mod Rows
 pub mod Sizes
 pub mod SumBound
 pub mod Cosine
+pub mod Names
 pub mod Front
 pub mod Steady
 pub mod Compared
