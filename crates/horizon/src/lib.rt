@@ -62,6 +62,7 @@ fn horizontal_square(north: i64, east: i64) -> u64
 }
 
 // The angles of a body, from x' and its components up, east and north; refusal 7 before 8.
+#[tactic(auto, unfolding(crate::specs::Horizon::sight_of))]
 fn sight_of(t: &SineTable, x: i64, up: i64, east: i64, north: i64) -> Sighting
     requires { (t.now ≡ entries) × (nat_abs x ≤ component_most) × (nat_abs up ≤ component_most) × (nat_abs east ≤ component_most) × (nat_abs north ≤ component_most) }
     ensures { (sight_values result ≡ sight_of (view x up east north)) × SightReduced result }

