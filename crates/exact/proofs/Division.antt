@@ -1,31 +1,15 @@
--- The laws of `floor_div` and `nearest_div`: what they are, that nothing else is, and how they move with the number divided.
+-- The laws of `floor_div` and `nearest_div`: how they move with the number divided, and what `nearest_div` is, which nothing else is.
 use mathlib.Core.Path.{◌≡◌, refl, sym, ap, ap₂, ◌∙◌}
 use Prim.Native.Nat.{ℕ, ◌+◌, ◌*◌, ◌/◌, ◌%◌, ◌≤◌, ◌<◌}
 use native.Mathlib.Nat.{mul_comm, mul-add, mul-one, mul-pos, mul-div-le, lt-mul-div-succ, div-add-mod, mod-lt, div-lt_iff_lt-mul, le_of_suc-le-suc, lt_of_mul-lt-mul_left}
 use native.Mathlib.Omega.{arith}
 use lib.Dec.{leb→le, le→leb}
 use lib.IntN.{ℤ, pos, negsuc, nat_abs, ◌+ℤ◌, ◌-ℤ◌, ◌*ℤ◌}
-use lib.Signed.{◌≤ℤ◌, ◌<ℤ◌, le_z_yes, ≤ℤ_refl}
+use lib.Signed.{◌≤ℤ◌, ◌<ℤ◌, le_z_yes}
 use Rattle.exact.specs.Division.{floor_div, nearest_div, nearest_div_ℕ}
 use Rattle.exact.proofs.Differences.{split, zs, abs-dif}
-use Rattle.exact.proofs.Integers.{≤-antisym, <-next, *-mono, within_step, abs-*}
-
--- ---- what floor_div is
-pub floor-low : (z : ℤ) (d : ℕ) → 0 < d → (pos d *ℤ floor_div z d) ≤ℤ z
-unfolding floor_div
-floor-low (pos a) d h = let e = div-add-mod a d in simp zs (omega arith)
-floor-low (negsuc a) d h = let e = div-add-mod a d in let m = mod-lt a h in simp zs (omega arith)
-
-pub floor-high : (z : ℤ) (d : ℕ) → 0 < d → z <ℤ (pos d *ℤ floor_div z d +ℤ pos d)
-unfolding floor_div
-floor-high (pos a) d h = let e = div-add-mod a d in let m = mod-lt a h in simp zs (omega arith)
-floor-high (negsuc a) d h = let e = div-add-mod a d in simp zs (omega arith)
-
--- ---- and the only such
-pub floor-is : (z q : ℤ) (d : ℕ) → 0 < d → (pos d *ℤ q) ≤ℤ z → z <ℤ (pos d *ℤ q +ℤ pos d) → q ≡ floor_div z d
-floor-is z q d h l u =
-    ≤-antisym q (floor_div z d) (within_step d q (floor_div z d) z z l (≤ℤ_refl z) (floor-high z d h))
-    (within_step d (floor_div z d) q z z (floor-low z d h) (≤ℤ_refl z) u)
+use Rattle.exact.proofs.Floor.{floor-low, floor-high, floor-is}
+use Rattle.exact.proofs.Integers.{<-next, *-mono, within_step, abs-*}
 
 -- a bound of d·q and d more, moved with the quotient
 raised : (d : ℕ) (z k q : ℤ) → z <ℤ (pos d *ℤ q +ℤ pos d) → (z +ℤ pos d *ℤ k) <ℤ (pos d *ℤ (q +ℤ k) +ℤ pos d)

@@ -1,5 +1,5 @@
 -- The laws of reduction to a turn: a congruence, and the short way round.
-use mathlib.Core.Path.{◌≡◌, sym, ap, ◌∙◌}
+use mathlib.Core.Path.{◌≡◌, sym, ap}
 use Prim.Native.Nat.{ℕ, ◌+◌, ◌*◌, ◌-◌, ◌/◌, ◌%◌, ◌≤◌, ◌<◌, min}
 use native.Mathlib.Nat.{le_refl, div-add-mod, mod-lt}
 use native.Mathlib.Omega.{arith}
@@ -9,7 +9,7 @@ use lib.Signed.{◌≤ℤ◌, ◌<ℤ◌, yes_non_neg, pos-nat_abs}
 use Rattle.exact.specs.Division.{floor_div}
 use Rattle.exact.specs.Reduction.{turn, rest, reduced, apart, short_way}
 use Rattle.exact.proofs.Differences.{split, zs}
-use Rattle.exact.proofs.Division.{floor-low, floor-high, floor-is}
+use Rattle.exact.proofs.Floor.{floor-low, floor-high, floor-is}
 
 -- ---- what a division leaves
 pub rest-is : (z : ℤ) (d : ℕ) → 0 < d → z ≡ pos d *ℤ floor_div z d +ℤ pos (rest z d)
@@ -83,10 +83,12 @@ reduced-turns z k =
     go z q r = rw (split z, split q, split k) (simp zs (omega arith))
 
 pub reduced-part : (z w : ℤ) → reduced (pos (reduced z) +ℤ w) ≡ reduced (z +ℤ w)
-reduced-part z w = sym (ap reduced (go z (floor_div z turn) (reduced z) (reduced-is z)) ∙ reduced-turns (pos (reduced z) +ℤ w) (floor_div z turn))
+reduced-part z w =
+    sym (reduced-unique (pos (reduced z) +ℤ w) (floor_div (z +ℤ w) turn -ℤ floor_div z turn) (reduced (z +ℤ w)) (reduced-lt (z +ℤ w))
+    (go z (floor_div z turn) (floor_div (z +ℤ w) turn) (reduced z) (reduced (z +ℤ w)) (reduced-is z) (reduced-is (z +ℤ w))))
   where
-    go : (z q : ℤ) (r : ℕ) → z ≡ pos turn *ℤ q +ℤ pos r → z +ℤ w ≡ pos r +ℤ w +ℤ pos turn *ℤ q
-    go z q r = rw (split z, split q, split w) (simp zs (omega arith))
+    go : (z q p : ℤ) (r s : ℕ) → z ≡ pos turn *ℤ q +ℤ pos r → z +ℤ w ≡ pos turn *ℤ p +ℤ pos s → pos r +ℤ w ≡ pos turn *ℤ (p -ℤ q) +ℤ pos s
+    go z q p r s = rw (split z, split w, split q, split p) (simp zs (omega arith))
 
 -- ---- the short way round is at most the plain distance
 pub short-way-le : (z w : ℤ) → short_way (reduced z) (reduced w) ≤ nat_abs (z -ℤ w)

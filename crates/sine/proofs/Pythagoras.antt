@@ -12,7 +12,8 @@ use Rattle.exact.proofs.Division.{Rounds, rounds}
 use Rattle.exact.proofs.Products.{twice, root-le}
 use Rattle.sine_table.specs.Step.{step}
 use Rattle.sine_table.specs.Table.{R, entry_at, step_count}
-use Rattle.sine_table.proofs.TableRule.{squares_below, squared_chord, StepLaw, step-law}
+use Rattle.sine_table.proofs.StepFigures.{squares_below, squared_chord}
+use Rattle.sine_table.proofs.TableRule.{StepLaw, step-law}
 use Rattle.sine.specs.Sine.{sin_quadrant, Sin, Cos}
 use Rattle.sine.specs.SineContract.{circle_least, circle_most, OnCircle}
 use Rattle.sine.proofs.Quadrant.{mix, sin-at, in-interval}

@@ -12,6 +12,7 @@ use Rattle.exact.proofs.Division.{Rounds, rounds}
 use Rattle.exact.proofs.AllBelow.{all_below, below_all, all_le, all-le, climbs}
 use Rattle.sine_table.specs.Step.{step}
 use Rattle.sine_table.specs.SinePolynomial.{poly_num, poly_den, term, cofactor, arc, whole}
+use Rattle.sine_table.proofs.StepFigures.{squares_above, squares_below, squared_chord}
 use Rattle.sine_table.specs.Table.{R, entry_by, entry_at, step_count, entry_count, entries_from, entries}
 
 -- ---- the list
@@ -37,17 +38,6 @@ unfolding entry_by
 entry-rounds n = rounds (R * poly_num (step * n)) den_pos
 
 -- ---- a step of the table
-
--- at an entry, by how much the squares of a sine and a cosine with both added are above R² at most (2.7036·R), and the squares alone below it (1.3075·R);
--- and how large the squared chord of a step is at most (84.6166·R)
-abbrev pub squares_above : ℕ
-squares_above = 2_704_000_000
-
-abbrev pub squares_below : ℕ
-squares_below = 1_308_000_000
-
-abbrev pub squared_chord : ℕ
-squared_chord = 84_617_000_000
 
 -- of a step from the entry e to e', and of its mirror in the quadrant from f to f': at its start the sine is e and the cosine f', at its end e' and f
 pub record StepLaw (e e' f f' : ℕ) : Type 0 where
