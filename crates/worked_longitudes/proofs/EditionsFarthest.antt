@@ -60,14 +60,18 @@ compared-2020 =
     rw ((short-longitudes aberration epoch2020).0 ∙ short-2020, (full-longitudes aberration epoch2020).0 ∙ full-2020, bound-2020) refl
 
 -- the eight numbers are answered so
+answered : editions march2020 ≡ worked 75_308_836 75_466_135
+unfolding editions instant millionths since1900 day_millisecond is_dut1 is_delta_t is_time last_millisecond leap_second_day is_date day_count month_days year_days month_length leap_year between floor_div
+answered = compared-2020
+
 pub farthest-known : editions march2020 ≡ record { refusal = 0; short = 75_308_836; full = 75_466_135; apart = 157_299; bound = 227_763 }
-unfolding editions short_way instant millionths since1900 day_millisecond is_dut1 is_delta_t is_time last_millisecond leap_second_day is_date day_count month_days year_days month_length leap_year between floor_div
-farthest-known = compared-2020
+unfolding short_way
+farthest-known = answered
 
 -- what the short edition drops of the full one without Jupiter's largest term, 7.208″
 abbrev jupiter_largest : Term
 jupiter_largest = Notation.cosine (plus 7_208 3) (plus 179_532 3) (Notation.less 1 Jupiter) (Notation.added 1 Ms) Notation.none
 
 pub jupiter-counts : (dropped short_terms (others jupiter_largest full_terms) epoch2020.q ≡ 155_683) × (155_683 < (editions march2020).apart)
-unfolding changes counterpart others same_angle same_amplitude costs secular.value nearest_div floor_div
-jupiter-counts = (refl, rw farthest-known (lit< tt))
+unfolding short_way changes counterpart others same_angle same_amplitude costs secular.value nearest_div floor_div
+jupiter-counts = (refl, rw answered (lit< tt))

@@ -24,8 +24,9 @@ use Rattle.series.specs.Term.{angle_of, value}
 use Rattle.series.specs.Sum.{total, table_sum, polynomial_sum}
 use Rattle.frame.specs.Nutation.{dpsi}
 use Rattle.sun.specs.Series.{short_terms, full_terms}
-use Rattle.sun.specs.Longitude.{aberration, longitude_by, polynomial_by, apparent_longitude, polynomial_longitude}
+use Rattle.sun.specs.Longitude.{aberration, longitude_by, polynomial_by}
 use Rattle.sun.proofs.Editions.{short-longitudes, full-longitudes}
+use Rattle.worked_longitudes.proofs.TwoApart.{both, distance, TwoApart}
 
 -- fields 1 to 7 and 11 of an instant
 abbrev pub civil : ℕ → ℕ → ℕ → ℕ → ℕ → ℕ → ℤ → ℕ → CivilTime
@@ -40,10 +41,6 @@ civil year month day hour minute millisecond dut1 delta_t = record {
   delta_t = pos delta_t;
 }
 
--- an epoch that is that of both times, as without ΔT
-abbrev both : Epoch → Epochs
-both e = record { universal = e; ephemeris = e }
-
 abbrev pub march1994 : CivilTime
 march1994 = civil 1994 3 22 13 19 32_701 (pos 0) 0
 
@@ -55,16 +52,6 @@ april1996 = civil 1996 4 10 5 42 5_618 (pos 0) 0
 
 abbrev pub epoch1996 : Epoch
 epoch1996 = epoch (pos 3_038_146_925_618) (pos 962_730)
-
--- s, the polynomial longitude and their distance at an epoch, by an edition
-abbrev pub apparent_at : ℤ → Epoch → ℕ
-apparent_at edition e = apparent_longitude edition aberration e
-
-abbrev pub polynomial_at : ℤ → Epoch → ℕ
-polynomial_at edition e = polynomial_longitude edition aberration e
-
-abbrev pub distance : ℤ → Epoch → ℕ
-distance edition e = short_way (apparent_at edition e) (polynomial_at edition e)
 
 -- ---- both instants are accepted
 accepted-1994 : instant_of march1994 ≡ accepted (both epoch1994)
@@ -92,10 +79,7 @@ polynomial-1996 : polynomial_by full_terms aberration (full_arguments_of epoch19
 unfolding polynomial_by aberration polynomial_sum total value secular.value angle_of arguments_of full_arguments_of rows further_rows argument rest reduced floor_div nearest_div arc whole poly_den cofactor term poly_num poly_at
 polynomial-1996 = refl
 
--- ---- the theorems: of an edition, an accepted instant, its two longitudes, and their distance the short way round
-abbrev TwoApart : ℤ → CivilTime → Epoch → ℕ → ℕ → Type 0
-TwoApart edition t e s p = (instant_of t ≡ accepted (both e)) × (apparent_at edition e ≡ s) × (polynomial_at edition e ≡ p) × (distance edition e ≡ 2)
-
+-- ---- the theorems
 pub two-apart : TwoApart (pos 1) march1994 epoch1994 60_803_640 60_803_642
 unfolding short_way
 two-apart =

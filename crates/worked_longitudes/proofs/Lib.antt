@@ -1,3 +1,4 @@
+mod TwoApart
 pub mod FarthestKnown
 pub mod EditionsFarthest
 mod WorkedLongitude
