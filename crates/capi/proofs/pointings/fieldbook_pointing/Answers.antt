@@ -27,8 +27,22 @@ module _ (c : After-pointing) where
       let f = c.ranges in
       let is = c.pointing.ensures in
       subst (IsPointing x c.args.angle) e
-      (simp (c.query_with.ensures, to_z-of_z, f.year, f.month, f.day, f.hour, f.minute, f.millisecond, f.dut1, f.latitude, f.longitude,
-      f.body, f.delta_t, f.angle) at is)
+      (simp (
+        c.query_with.ensures,
+        to_z-of_z,
+        f.year,
+        f.month,
+        f.day,
+        f.hour,
+        f.minute,
+        f.millisecond,
+        f.dut1,
+        f.latitude,
+        f.longitude,
+        f.body,
+        f.delta_t,
+        f.angle,
+      ) at is)
 
 pub returns-in-Azimuth : goal.returns-in-Azimuth
 returns-in-Azimuth c = let d = c.before in values_of d _ c.in-Azimuth.is
