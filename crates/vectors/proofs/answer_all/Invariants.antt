@@ -2,5 +2,5 @@
 use Rattle.std.proofs.Common.{length, ◌-◌}
 use Rattle.vectors.proofs.answer_all.Given as goal
 
-abbrev pub decreases-loop : goal.decreases-loop
-decreases-loop l = length l.input - l.from
+abbrev pub decreases-loop-from : goal.decreases-loop-from
+decreases-loop-from l = length l.input - l.from

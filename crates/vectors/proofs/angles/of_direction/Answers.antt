@@ -1,0 +1,28 @@
+-- Components of at most 800,000,000 have a squared length of at most 1.92·R².
+use mathlib.Core.List.{[], ◌∷◌}
+use Prim.Native.Nat.{◌+◌, ◌*◌, ◌≤◌}
+use native.Mathlib.Nat.{mul-le-mul}
+use native.Mathlib.Omega.{arith}
+use lib.IntN.{ℤ, nat_abs}
+use mir.Facts.{to_z-of_z}
+use borrow.Author.Rules.{rules}
+use Rattle.rotation.specs.Length.{squared_length, growth}
+use Rattle.rotation.specs.Sizes.{reach}
+use Rattle.vectors.proofs.angles.of_direction.Goals as goal
+
+short : (x y z : ℤ) → nat_abs x ≤ 800_000_000 → nat_abs y ≤ 800_000_000 → nat_abs z ≤ 800_000_000 → squared_length (x ∷ y ∷ z ∷ []) + 2 * growth ≤ reach
+unfolding squared_length
+short x y z hx hy hz = omega (arith, mul-le-mul hx hx, mul-le-mul hy hy, mul-le-mul hz hz)
+
+pub from_position-requires : goal.from_position-requires
+from_position-requires c =
+    let z = c.before.before.before in
+    let y = z.before.before in
+    let x = y.before in
+    let l = x.before.before.before.before.before in
+    let s = l.before in
+    let ex = simp (to_z-of_z, s.ranges.x) at x.magnitude.ensures in
+    let ey = simp (to_z-of_z, s.ranges.y) at y.magnitude-2.ensures in
+    let ez = simp (to_z-of_z, s.ranges.z) at z.magnitude-3.ensures in
+    simp (to_z-of_z, s.ranges.x, s.ranges.y, s.ranges.z)
+    (s.requires, short s.args.x s.args.y s.args.z (omega arith) (omega arith) (omega arith), c.reduced.ensures.1, l.located-located.ensures)
