@@ -37,5 +37,8 @@ module _ (ws : List ℤ) (r : Restored) (restored : r ≡ restored_from ws) wher
     card-is = ap (λ r. r.card) restored ∙ restored-card (is_card ws) (card_of ws) (is-card ∙ w)
 
   -- and so what is answered
+  pub without : {A : Type 0} (answer : Card → A) (refused : ℕ → A) → r.whole ≡ false → refused LentCard.no_card ≡ with_card ws answer refused
+  without answer refused w = sym (on_none ws answer refused (is-card ∙ w))
+
   pub with : {A : Type 0} (answer : Card → A) (refused : ℕ → A) → r.whole ≡ true → answer r.card ≡ with_card ws answer refused
   with answer refused w = ap answer (card-is w) ∙ sym (on-card ws answer refused (is-card ∙ w))
