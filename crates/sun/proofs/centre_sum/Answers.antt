@@ -1,5 +1,5 @@
 -- The rows stand for the printed terms in whole units, which antt computes.
-use mathlib.Core.Path.{◌≡◌}
+use mathlib.Core.Path.{◌≡◌, refl, ap, ◌∙◌}
 use Prim.Native.Nat.{◌*◌, ◌≤◌, ◌^◌}
 use native.Mathlib.Nat.{le_trans}
 use lib.Dec.{lit≤}
@@ -27,6 +27,6 @@ sum-requires c =
 pub returns : goal.returns
 unfolding weights most kept steady_term steady_terms varying_term nearest_div floor_div
 returns c =
-    let is : c.sum.result ≡ total Sin c.args.arguments.now c.args.q centre = simp (to_z-of_z, c.ranges.q) at c.sum.ensures.0 in
+    let is : c.sum.result ≡ total Sin c.args.arguments.now c.args.q centre = (simp (to_z-of_z, c.ranges.q) at c.sum.ensures.0) ∙ ap (total Sin c.args.arguments.now c.args.q) refl in
     let least : nat_abs c.sum.result ≤ R * 2 ^ 27 = le_trans c.sum.ensures.1 (lit≤ tt) in
     simp (to_z-of_z, ok-fits c.sum.result c.sum.type_inv) (is, least)

@@ -1,5 +1,5 @@
 -- The rows stand for the printed terms in whole units, which antt computes.
-use mathlib.Core.Path.{◌≡◌, ap, ◌∙◌}
+use mathlib.Core.Path.{◌≡◌, refl, ap, ◌∙◌}
 use mathlib.Core.List.{List}
 use Prim.Native.Nat.{◌*◌, ◌≤◌, ◌^◌}
 use native.Mathlib.Nat.{le_trans}
@@ -18,6 +18,7 @@ use Rattle.series.specs.Rows.{kept, steady_term, steady_terms, varying_term}
 use Rattle.series.specs.Sizes.{counts}
 use Rattle.series.proofs.Sizes.{steady-ready, varying-ready}
 use Rattle.sun.specs.Series.{further}
+use Rattle.sun.proofs.further_sum.Goals.{After-sum}
 use Rattle.sun.proofs.further_sum.Goals as goal
 
 pub sum-requires : goal.sum-requires
@@ -27,11 +28,17 @@ sum-requires c =
     let r = c.full_arguments_of-all.ensures.1 in
     (varying-ready full_count p.0 r.reduced r.all (simp (to_z-of_z, q-fits p.2) (q-size p.2)) tt, steady-ready full_count p.0 r.reduced r.all tt)
 
+module _ (c : After-sum) where
+  sum_is : c.sum.result ≡ total Sin c.full_arguments_of-all.result c.args.e.q further
+  unfolding kept steady_term steady_terms varying_term nearest_div floor_div
+  sum_is = let e = simp (to_z-of_z, q-fits c.requires.2) at c.sum.ensures.0 in e ∙ ap (total Sin c.full_arguments_of-all.result c.args.e.q) refl
+
+  sum-le : nat_abs c.sum.result ≤ R * 2 ^ 27
+  unfolding weights most kept steady_term steady_terms varying_term
+  sum-le = le_trans c.sum.ensures.1 (lit≤ tt)
+
 pub returns : goal.returns
-unfolding weights most kept steady_term steady_terms varying_term nearest_div floor_div
 returns c =
-    let q = c.args.e.q in
-    let is : c.sum.result ≡ total Sin c.full_arguments_of-all.result q further = simp (to_z-of_z, q-fits c.requires.2) at c.sum.ensures.0 in
-    let least : nat_abs c.sum.result ≤ R * 2 ^ 27 = le_trans c.sum.ensures.1 (lit≤ tt) in
+    let d = (goal.at.returns c).After-sum in
     simp (to_z-of_z, ok-fits c.sum.result c.sum.type_inv)
-    (is ∙ ap (λ (l : List ℤ). total Sin l q further) c.full_arguments_of-all.ensures.0, least)
+    (sum_is d ∙ ap (λ (l : List ℤ). total Sin l c.args.e.q further) c.full_arguments_of-all.ensures.0, sum-le d)

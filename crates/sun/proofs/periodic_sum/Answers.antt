@@ -1,5 +1,5 @@
 -- The rows stand for the printed terms in whole units, which antt computes.
-use mathlib.Core.Path.{◌≡◌}
+use mathlib.Core.Path.{◌≡◌, refl, ap, ◌∙◌}
 use Prim.Native.Nat.{◌*◌, ◌≤◌, ◌^◌}
 use native.Mathlib.Nat.{le_trans}
 use lib.Dec.{lit≤}
@@ -25,6 +25,6 @@ steady_sum-requires c = steady-ready argument_count c.requires.0 c.requires.1.re
 pub returns : goal.returns
 unfolding weights most kept steady_term steady_terms nearest_div floor_div
 returns c =
-    let is : (q : ℤ) → c.steady_sum.result ≡ total Sin c.args.arguments.now q periodic = λ q. c.steady_sum.ensures.0 q in
+    let is : (q : ℤ) → c.steady_sum.result ≡ total Sin c.args.arguments.now q periodic = λ q. c.steady_sum.ensures.0 q ∙ ap (total Sin c.args.arguments.now q) refl in
     let least : nat_abs c.steady_sum.result ≤ R * 2 ^ 27 = le_trans c.steady_sum.ensures.1 (lit≤ tt) in
     simp (to_z-of_z, ok-fits c.steady_sum.result c.steady_sum.type_inv) (is, least)
