@@ -1,28 +1,18 @@
 -- Rows of many shots: they lie inside their lists, and the answer to one row more.
-use mathlib.Core.Path.{◌≡◌, refl, sym, ap, ◌∙◌}
-use mathlib.Core.List.{List, [], ◌++◌, append_assoc, append-nil}
+use mathlib.Core.Path.{◌≡◌, refl, ap, ◌∙◌}
+use mathlib.Core.List.{List, ◌++◌}
 use Prim.Native.Nat.{ℕ, zero, suc, ◌+◌, ◌-◌, ◌*◌, ◌≤◌}
 use native.Mathlib.Numerals.{add-one}
 use native.Mathlib.Omega.{arith}
 use lib.IntN.{ℤ}
-use lib.ListN.{length, take, drop, length-append, length-drop, drop_of_length-le}
+use lib.ListN.{length, take, drop, length-append, length-drop}
 use lib.Seq.{take_at, drop-append-add, drop-drop, take_all}
 use borrow.Rule.Slice.PartMut.{put_mid}
+use Rattle.digits.proofs.Lists.{put-tail}
 use Rattle.card.specs.Fields.{field_count}
 use Rattle.fieldbook.specs.Shot.{numbers_of, query, shot}
 use Rattle.fieldbook.specs.declared.Options.{Options}
 use Rattle.capi.specs.Rows.{shot_words, word_count, row_count, answers_to}
-
--- ---- of a list the part from a on comes back as y, with d at its front
-tail-part : (a : ℕ) (l : List ℕ) → take (length l - a) (drop a l) ≡ drop a l
-tail-part a l = take_all (length l - a) (drop a l) (simp length-drop (omega arith))
-
-put-tail : (a : ℕ) (l d y : List ℕ) → a ≤ length l → y ≡ d ++ drop (length d) (take (length l - a) (drop a l))
-    → put_mid a (length l - a) l y ≡ take a l ++ d ++ drop (a + length d) l
-put-tail a l d y h e =
-    let n : List ℕ = [] in
-    let z : drop (length l - a) (drop a l) ≡ n = drop_of_length-le (drop a l) {i = length l - a} (simp length-drop (omega arith)) in
-    rw (z, append-nil, e, tail-part, drop-drop) (sym (append_assoc (take a l) d (drop (a + length d) l)))
 
 -- ---- they lie inside their lists
 pub within : (rows : List ℤ) (answers : List ℕ) → (field_count * row_count rows answers ≤ length rows) × (word_count * row_count rows answers ≤ length answers)

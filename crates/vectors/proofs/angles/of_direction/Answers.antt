@@ -5,7 +5,6 @@ use native.Mathlib.Nat.{mul-le-mul}
 use native.Mathlib.Omega.{arith}
 use lib.IntN.{ℤ, nat_abs}
 use mir.Facts.{to_z-of_z}
-use borrow.Author.Rules.{rules}
 use Rattle.rotation.specs.Length.{squared_length, growth}
 use Rattle.rotation.specs.Sizes.{reach}
 use Rattle.vectors.proofs.angles.of_direction.Goals as goal

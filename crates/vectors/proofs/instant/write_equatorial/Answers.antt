@@ -7,7 +7,6 @@ use lib.IntN.{ℤ, pos, nat_abs}
 use mir.Facts.{to_z-of_z}
 use mir.Syntax.{w64}
 use mir.Val.{SFits, to_z}
-use borrow.Author.Rules.{rules}
 use Rattle.exact.specs.Nth.{nth}
 use Rattle.exact.proofs.Machine.{fits_le, as-signed}
 use Rattle.rotation.specs.Length.{squared_length}
