@@ -1,7 +1,7 @@
 -- The full edition is the short one and what stands in `further`: the two sums add up to its sum, exactly, with any function for the sine. And what both
 -- editions share names the first eleven arguments alone, so that four more behind them change nothing. Then what the numbers 1 and 2 stand for, and the
 -- longitude of an edition by the arguments that both share.
-use mathlib.Core.Path.{◌≡◌, refl, sym, ap, ◌∙◌}
+use mathlib.Core.Path.{◌≡◌, refl, sym, ap, ap₂, ◌∙◌}
 use mathlib.Core.Bool.{Bool, true, false, cond, decide_iff}
 use mathlib.Core.List.{List, ◌++◌}
 use Prim.Native.Nat.{ℕ}
@@ -24,7 +24,7 @@ use Rattle.series.proofs.Sums.{total-append, value-apart}
 use Rattle.series.proofs.Front.{total-front, table-sum-front}
 use Rattle.frame.specs.Nutation.{dpsi, dpsi_terms}
 use Rattle.sun.specs.Series.{centre, long_period, moon, venus, short_terms, full_long_period, planets, full_terms, further}
-use Rattle.sun.specs.Editions.{is_short}
+use Rattle.sun.specs.Editions.{is_short, terms_of, arguments_for}
 use Rattle.sun.specs.Longitude.{mean_longitude, first_sum, longitude_by, polynomial_by, apparent_longitude, polynomial_longitude}
 
 module _ (f : ℕ → ℤ) (arguments : List ℤ) (q : ℤ) where
@@ -113,6 +113,13 @@ full-is-not-short e = let h : nat_abs (pos 2) ≡ nat_abs (pos 1) = ap nat_abs e
 is-full : is_short (pos 2) ≡ false
 is-full = not-decided (ℤ_discrete (pos 2) (pos 1)) full-is-not-short
 
+-- an edition that is not the short one has the full one's terms and arguments
+full-edition : (edition : ℤ) → is_short edition ≡ false → terms_of edition ≡ full_terms
+full-edition edition h = rw h refl
+
+full-arguments : (edition : ℤ) (e : Epoch) → is_short edition ≡ false → arguments_for edition e ≡ full_arguments_of e
+full-arguments edition e h = rw h refl
+
 module _ (aberration : ℤ) (e : Epoch) where
   pub short-longitudes : (apparent_longitude (pos 1) aberration e ≡ longitude_by short_terms aberration (arguments_of e) e.q)
       × (polynomial_longitude (pos 1) aberration e ≡ polynomial_by short_terms aberration (arguments_of e) e.q)
@@ -122,7 +129,10 @@ module _ (aberration : ℤ) (e : Epoch) where
   pub full-longitudes : (apparent_longitude (pos 2) aberration e ≡ longitude_by full_terms aberration (full_arguments_of e) e.q)
       × (polynomial_longitude (pos 2) aberration e ≡ polynomial_by full_terms aberration (full_arguments_of e) e.q)
   unfolding apparent_longitude polynomial_longitude
-  full-longitudes = rw is-full (refl, refl)
+  full-longitudes = (
+    ap₂ (λ ts l. longitude_by ts aberration l e.q) (full-edition (pos 2) is-full) (full-arguments (pos 2) e is-full),
+    ap₂ (λ ts l. polynomial_by ts aberration l e.q) (full-edition (pos 2) is-full) (full-arguments (pos 2) e is-full),
+  )
 
 -- ---- the first sum of an edition
 module _ (edition : ℤ) (e : Epoch) (z : ℤ) where
@@ -132,7 +142,10 @@ module _ (edition : ℤ) (e : Epoch) (z : ℤ) where
 
   pub full-first-sum : (edition ≡ pos 1 → ⊥) → z ≡ total Sin (full_arguments_of e) e.q full_terms → nearest_div z R ≡ first_sum edition e
   unfolding first_sum table_sum
-  full-first-sum h i = rw (not-decided (ℤ_discrete edition (pos 1)) h) (ap (λ (z : ℤ). nearest_div z R) i)
+  full-first-sum h i =
+      let n = not-decided (ℤ_discrete edition (pos 1)) h in
+      ap (λ (z : ℤ). nearest_div z R) i
+      ∙ sym (ap₂ (λ ts l. nearest_div (total Sin l e.q ts) R) (full-edition edition n) (full-arguments edition e n))
 
 -- ---- its longitude, by the arguments that both share
 pub full-mean : (e : Epoch) → mean_longitude (full_arguments_of e) ≡ mean_longitude (arguments_of e)
