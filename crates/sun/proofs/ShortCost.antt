@@ -1,52 +1,36 @@
 -- What the short series costs, request 8: at every epoch the longitudes of the short edition and of the full one are, the short way round, no further
--- apart than the amplitudes that the short one drops, at the q of that epoch. It is the law of any two lists of terms (`editions-apart`). The unit more
+-- apart than the amplitudes that the short one drops, at the q of that epoch. It is the law of any two lists of terms (`editions-apart`, EditionsApart.antt). The unit more
 -- that the request allows is not needed: both first sums are rounded once, and Δψ is the same in both.
--- What is dropped is computed from the two lists (`left_out`), and with it the short list is the full one (`together`). In units it is 227,570 in 24
+-- What is dropped is computed from the two lists (`left_out`, LeftOut.antt), and with it the short list is the full one (`together`). In units it is 227,570 in 24
 -- terms that are the same at every q, and what is left out of 1.882″ − 0.016″T (`short-cost-is`).
 use mathlib.Core.Path.{◌≡◌, refl, ap, ap₂, ◌∙◌}
-use mathlib.Core.List.{List, [], ◌∷◌, map}
+use mathlib.Core.List.{map}
 use Prim.Native.Nat.{ℕ, ◌+◌, ◌^◌, ◌≤◌}
-use native.Mathlib.Nat.{le_trans}
 use native.Mathlib.Omega.{arith}
 use lib.Dec.{lit<, lit≤}
 use lib.IntN.{ℤ, pos, negsuc, nat_abs, ◌+ℤ◌, ◌-ℤ◌, ◌*ℤ◌}
-use Rattle.exact.specs.Decimal.{plus, minus, arc_seconds}
 use Rattle.exact.specs.Division.{floor_div, nearest_div}
 use Rattle.exact.specs.Reduction.{short_way}
 use Rattle.exact.proofs.Differences.{split, zs}
-use Rattle.exact.proofs.Division.{Within, floor-abs}
+use Rattle.exact.proofs.Division.{floor-abs}
 use Rattle.exact.proofs.Integers.{abs-*-le}
-use Rattle.exact.proofs.Reduction.{short-way-le}
 use Rattle.secular.specs.FlooredPolynomial as secular
 use Rattle.epoch.specs.Epoch.{last_millionth}
 use Rattle.epoch.specs.declared.Epoch.{Epoch}
 use Rattle.arguments.specs.Argument.{arguments_by}
-use Rattle.arguments.specs.PrintedArguments.{P2, P4, rows, further_rows, arguments_of, full_arguments_of}
-use Rattle.series.specs.Term.{Term}
+use Rattle.arguments.specs.PrintedArguments.{rows, further_rows, arguments_of, full_arguments_of}
 use Rattle.series.specs.Sum.{table_sum, amplitudes}
-use Rattle.series.specs.Notation.{term, sine, none}
-use Rattle.series.specs.Notation as Notation
-use Rattle.series.specs.Compared.{same_angle, same_amplitude, counterpart, others, change, added, changes, restored, costs, dropped}
-use Rattle.series.proofs.Compared.{added-costs, table-sums-apart}
+use Rattle.series.specs.Compared.{added, costs, dropped}
+use Rattle.series.proofs.Compared.{added-costs}
 use Rattle.series.proofs.Front.{table-sum-front}
 use Rattle.series.proofs.Steady.{steady_sum, varying, amplitudes-split}
 use Rattle.series.proofs.Sums.{nothing}
-use Rattle.frame.specs.Nutation.{dpsi}
-use Rattle.sun.specs.Series.{short_terms, planets, full_terms}
-use Rattle.sun.specs.Longitude.{mean_longitude, longitude_by, apparent_longitude}
+use Rattle.sun.specs.Series.{short_terms, full_terms}
+use Rattle.sun.specs.Longitude.{longitude_by, apparent_longitude}
 use Rattle.sun.specs.ShortCost.{short_cost}
+use Rattle.sun.proofs.EditionsApart.{editions-apart}
+use Rattle.sun.proofs.LeftOut.{lacking, left_out}
 use Rattle.sun.proofs.Editions.{full-dpsi, full-mean, short-longitudes, full-longitudes}
-
--- ---- any two editions, at any arguments and q
-pub editions-apart : (ts us : List Term) (aberration : ℤ) (arguments : List ℤ) (q : ℤ)
-    → short_way (longitude_by ts aberration arguments q) (longitude_by us aberration arguments q) ≤ dropped ts us q
-unfolding longitude_by
-editions-apart ts us aberration arguments q =
-    le_trans (short-way-le _ _)
-    (apart (mean_longitude arguments) (table_sum arguments q ts) (table_sum arguments q us) (dpsi arguments q) aberration (dropped ts us q) (table-sums-apart arguments q ts us))
-  where
-    apart : (l f g p k : ℤ) (n : ℕ) → Within g f n → nat_abs ((l +ℤ f +ℤ p -ℤ k) -ℤ (l +ℤ g +ℤ p -ℤ k)) ≤ n
-    apart l f g p k n = rw (split l, split f, split g, split p, split k) (simp zs (omega arith))
 
 -- ---- the short edition and the full one, at an epoch
 -- by the arguments of the full edition the short one is what it is by its own
@@ -65,22 +49,6 @@ unfolding short_cost
 short-costs aberration e =
     rw ((short-longitudes aberration e).0, (full-longitudes aberration e).0, ← short-by-all aberration e)
     (editions-apart short_terms full_terms aberration (full_arguments_of e) e.q)
-
--- ---- what is left out: of 1.882″ − 0.016″T the second part, the fourth long period term, and Mars, Jupiter and Saturn
-abbrev second : ℤ → Term
-second c1 = term (arc_seconds (plus 1_882 3)) c1 (pos 0) (pos 0) (Notation.added 1 P2) none none
-
-abbrev lacking : List Term
-lacking = sine (plus 266 3) (Notation.added 1 P4) none none ∷ planets
-
-pub left_out : changes short_terms full_terms ≡ change (second (pos 0)) (second (arc_seconds (minus 16 3))) ∷ map added lacking
-unfolding changes counterpart others same_angle same_amplitude nearest_div floor_div
-left_out = refl
-
--- with it the short list is the full one: nothing changes any more
-pub together : changes (restored short_terms (changes short_terms full_terms)) full_terms ≡ []
-unfolding restored changes counterpart others same_angle same_amplitude nearest_div floor_div
-together = refl
 
 -- ---- in units, at any q
 lacking-costs : (q : ℤ) → costs q (map added lacking) ≡ 227_570

@@ -14,13 +14,6 @@ use Rattle.sun.proofs.short_cost.Goals.{After-magnitude}
 use Rattle.sun.proofs.short_cost.Goals as goal
 
 module _ (c : After-magnitude) where
-  cost-is : c.magnitude.result + 227_570 ≡ short_cost c.args.q
-  cost-is =
-      let v = c.value in
-      let is = simp (to_z-of_z, c.ranges.q) at v.ensures.0 in
-      let m = simp (to_z-of_z, ok-fits v.result v.type_inv) at c.magnitude.ensures in
-      ap (λ (n : ℕ). n + 227_570) (m ∙ ap nat_abs is) ∙ sym (short-cost-is c.args.q)
-
   small : c.magnitude.result ≤ 2 ^ 16
   unfolding most
   small = let v = c.value in rw c.magnitude.ensures (simp (to_z-of_z, ok-fits v.result v.type_inv) (le_trans v.ensures.1 (lit≤ tt)))
@@ -29,4 +22,10 @@ pub overflow_add-result : goal.overflow_add-result
 overflow_add-result c = record { fits = omega (arith, small (goal.at.overflow_add-result c).After-magnitude) }
 
 pub returns : goal.returns
-returns c = omega (arith, cost-is (goal.at.returns c).After-magnitude)
+returns c =
+    let d = (goal.at.returns c).After-magnitude in
+    let v = d.value in
+    let is = simp (to_z-of_z, d.ranges.q) at v.ensures.0 in
+    let m = simp (to_z-of_z, ok-fits v.result v.type_inv) at d.magnitude.ensures in
+    let cost : d.magnitude.result + 227_570 ≡ short_cost d.args.q = ap (λ (n : ℕ). n + 227_570) (m ∙ ap nat_abs is) ∙ sym (short-cost-is d.args.q) in
+    omega (arith, cost)
