@@ -1,12 +1,12 @@
-// An instant as the theory takes it. Document 01, "Time".
+// An instant as the theory takes it.
 #![tactic(auto)]
 
 ghost use Rattle.std.specs.Prelude.{◌≡◌};
 ghost use Rattle.epoch.specs.Epoch.{epoch_of};
 ghost use Rattle.epoch.specs.Sizes.{Span, InSpan};
 
-// 01's N, in milliseconds since 1900 January 0.5, and q, the millionths of a Julian century in it.
-#[derive(Clone, Copy)]
+// N, in milliseconds since 1900 January 0.5, and q, the millionths of a Julian century in it.
+#[derive(Clone, Copy, Debug, PartialEq, Eq)]
 pub struct Epoch {
     pub n: i64,
     pub q: i64,
@@ -18,7 +18,7 @@ pub fn epoch_of(n: i64) -> Epoch
     ensures { (result ≡ epoch_of n) × InSpan result }
 {
     Epoch {
-        n: n,
+        n,
         q: (n as u64 / exact::MILLIONTH) as i64,
     }
 }

@@ -1,4 +1,4 @@
-// Floored polynomials: what changes slowly with time, in whole units. Document 01, "Time", "The Sun" and "Polaris".
+// Floored polynomials: what changes slowly with time, in whole units.
 #![tactic(auto)]
 
 ghost use Rattle.std.specs.Prelude.{◌≡◌, ◌≤◌, nat_abs};
@@ -9,7 +9,7 @@ ghost use Rattle.secular.specs.Sizes.{Sized, most_millionths, most};
 pub const SQUARE: i64 = 1_000_000_000_000;
 
 // The coefficients: c0 as it is, c1 for a million of x, c2 for a million squared where the divisor is 10^12.
-#[derive(Clone, Copy)]
+#[derive(Clone, Copy, Debug, PartialEq, Eq)]
 pub struct Polynomial {
     pub c0: i64,
     pub c1: i64,
