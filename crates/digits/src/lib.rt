@@ -5,15 +5,6 @@ ghost use Rattle.std.specs.Prelude.{◌≡◌, ◌++◌, ◌+◌, ◌%◌, ◌�
 ghost use Rattle.digits.specs.Text.{digits, text};
 ghost use Rattle.digits.specs.Writing.{write_at, buffer_with};
 
-// What writing at a place of a buffer answers.
-#[derive(Clone, Copy)]
-pub enum Written {
-    // The text stands in the buffer, and is so many bytes long.
-    Bytes(usize),
-    // It does not fit from that place on.
-    NoRoom,
-}
-
 // The last decimal digit of n, as a byte.
 pub fn last_digit(n: u64) -> u8
     ensures { result ≡ 48 + n % 10 }
@@ -68,16 +59,14 @@ fn write_text(buf: &mut [u8], n: i64) -> usize
     write_digits(buf, m)
 }
 
-// Writes the text of n from a place of the buffer on. Where it does not fit, the buffer stays as it was.
-pub fn write_at(buf: &mut [u8], place: usize, n: i64) -> Written
+// Writes the text of n from a place of the buffer on, and says how many bytes it takes. Where it does not fit, the answer is None and the buffer stays as
+// it was.
+pub fn write_at(buf: &mut [u8], place: usize, n: i64) -> Option<usize>
     ensures value { result ≡ write_at buf.old place n }
     ensures buf_after { buf.new ≡ buffer_with buf.old place n }
 {
-    if buf.len() < place {
-        return Written::NoRoom;
+    if buf.len() < place || buf.len() - place < text_len(n) {
+        return None;
     }
-    if buf.len() - place < text_len(n) {
-        return Written::NoRoom;
-    }
-    Written::Bytes(write_text(&mut buf[place..], n))
+    Some(write_text(&mut buf[place..], n))
 }
