@@ -4,10 +4,10 @@
 
 ghost use Rattle.std.specs.Prelude.{◌≡◌, ◌+◌, ◌*◌, ◌/◌, ◌<◌, ◌≤◌, ◌^◌, pos, nat_abs, ◌+ℤ◌, ◌*ℤ◌, ◌<ℤ◌, ◌≤ℤ◌};
 ghost use Rattle.exact.specs.Division.{floor_div, nearest_div};
-ghost use Rattle.exact.specs.Reduction.{turn, is_reduced, reduced, apart, short_way};
+ghost use Rattle.exact.specs.Reduction.{turn, is_reduced, reduced, short_way};
 ghost use Rattle.exact.specs.Century.{century};
 ghost use Rattle.exact.specs.Largest.{root};
-ghost use Rattle.exact.specs.Range.{between, same};
+ghost use Rattle.exact.specs.Range.{between};
 
 // A turn, in units of 0.0001″.
 pub const TURN: i64 = 12_960_000_000;
@@ -26,13 +26,6 @@ pub fn between(low: i64, x: i64, high: i64) -> bool
     ensures { result ≡ between low x high }
 {
     low <= x && x <= high
-}
-
-// Whether two numbers are one.
-pub fn same(a: i64, b: i64) -> bool
-    ensures { result ≡ same a b }
-{
-    a == b
 }
 
 // A number without its sign; also of the least i64, whose negative is no i64.
@@ -87,19 +80,12 @@ pub fn reduced_bounded(a: i64) -> u64
     (a + TURNS) as u64 % TURN as u64
 }
 
-// How far two angles are apart, without passing 0.
-fn apart(a: u64, b: u64) -> u64
-    ensures { result ≡ apart a b }
-{
-    if a < b { b - a } else { a - b }
-}
-
 // How far two reduced angles are apart the short way round.
 pub fn short_way(a: u64, b: u64) -> u64
     requires { (a < turn) × (b < turn) }
     ensures { result ≡ short_way a b }
 {
-    let apart = apart(a, b);
+    let apart = a.abs_diff(b);
     let round = TURN as u64 - apart;
     if round < apart { round } else { apart }
 }

@@ -1,10 +1,8 @@
 -- Document 01, "Refusal numbers", and document 02 (RULES.md, "Refusals"): the number of each of the code's refusals. Above this file, specs/ speak of the numbers alone; 0
 -- stands for no refusal.
-use Rattle.std.specs.Prelude.{ℕ}
+use Rattle.std.specs.Prelude.{ℕ, Result, Ok, Err}
 use Rattle.refusal.specs.declared.Refusal.{Refusal}
 use Rattle.refusal.specs.declared.Refusal.TheVariants.{NotConfirmed, NoDate, NoTime, NoDut1, NoPosition, NoBody, BelowHorizon, NearZenith, NoField, EmptyField, NoRoom, NotRead, TooLarge, Malformed, NoAngle, NoList, NoDeltaT, NothingToUndo, NoEdition}
-use Rattle.refusal.specs.declared.Verdict.{Verdict}
-use Rattle.refusal.specs.declared.Verdict.TheVariants.{Accepted, Refused}
 
 abbrev pub number_of : Refusal → ℕ
 number_of NotConfirmed = 1
@@ -31,6 +29,7 @@ number_of NoEdition = 19
 abbrev pub largest_number : ℕ
 largest_number = 19
 
-abbrev pub verdict_number : Verdict → ℕ
-verdict_number Accepted = 0
-verdict_number (Refused r) = number_of r
+-- of a call that gives nothing but a refusal: 0 where it is accepted
+abbrev pub verdict_number : Result Unit Refusal → ℕ
+verdict_number (Ok ok) = 0
+verdict_number (Err r) = number_of r

@@ -1,11 +1,11 @@
-// The refusals of the whole book: document 01, "Refusal numbers", and those that document 02 adds.
+// The refusals of the whole book. A call answers `Result<.., Refusal>`; where it gives nothing but a refusal, `Result<(), Refusal>`.
 #![tactic(auto)]
 
 ghost use Rattle.std.specs.Prelude.{◌≡◌, ◌≤◌};
 ghost use Rattle.refusal.specs.RefusalNumbers.{number_of, largest_number};
 
-// Why a call is refused, in the order of the numbers: 1 to 14 of document 01, 15 to 19 of document 02.
-#[derive(Clone, Copy)]
+// Why a call is refused, in the order of the numbers.
+#[derive(Clone, Copy, Debug, PartialEq, Eq)]
 pub enum Refusal {
     // 1: a shot from a card on which some field is not confirmed.
     NotConfirmed,
@@ -47,36 +47,31 @@ pub enum Refusal {
     NoEdition,
 }
 
-// What a call that gives nothing but a refusal answers.
-#[derive(Clone, Copy)]
-pub enum Verdict {
-    Accepted,
-    Refused(Refusal),
-}
+// The number of a refusal, as `u64::from` gives it.
+impl From<Refusal> for u64 {
+    ghost from_gives = { λ refusal n. (n ≡ number_of refusal) × (n ≤ largest_number) };
 
-// The number of a refusal.
-pub fn number_of(refusal: Refusal) -> u64
-    ensures { (result ≡ number_of refusal) × (result ≤ largest_number) }
-{
-    match refusal {
-        Refusal::NotConfirmed => 1,
-        Refusal::NoDate => 2,
-        Refusal::NoTime => 3,
-        Refusal::NoDut1 => 4,
-        Refusal::NoPosition => 5,
-        Refusal::NoBody => 6,
-        Refusal::BelowHorizon => 7,
-        Refusal::NearZenith => 8,
-        Refusal::NoField => 9,
-        Refusal::EmptyField => 10,
-        Refusal::NoRoom => 11,
-        Refusal::NotRead => 12,
-        Refusal::TooLarge => 13,
-        Refusal::Malformed => 14,
-        Refusal::NoAngle => 15,
-        Refusal::NoList => 16,
-        Refusal::NoDeltaT => 17,
-        Refusal::NothingToUndo => 18,
-        Refusal::NoEdition => 19,
+    fn from(refusal: Refusal) -> u64 {
+        match refusal {
+            Refusal::NotConfirmed => 1,
+            Refusal::NoDate => 2,
+            Refusal::NoTime => 3,
+            Refusal::NoDut1 => 4,
+            Refusal::NoPosition => 5,
+            Refusal::NoBody => 6,
+            Refusal::BelowHorizon => 7,
+            Refusal::NearZenith => 8,
+            Refusal::NoField => 9,
+            Refusal::EmptyField => 10,
+            Refusal::NoRoom => 11,
+            Refusal::NotRead => 12,
+            Refusal::TooLarge => 13,
+            Refusal::Malformed => 14,
+            Refusal::NoAngle => 15,
+            Refusal::NoList => 16,
+            Refusal::NoDeltaT => 17,
+            Refusal::NothingToUndo => 18,
+            Refusal::NoEdition => 19,
+        }
     }
 }

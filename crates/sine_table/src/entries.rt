@@ -1,4 +1,4 @@
-// The table of document 01, "The sine": R·P at every STEP from 0 to a quadrant, to nearest. Written by tools/sine-table.py.
+// The sine's table: R·P at every STEP from 0 to a quadrant, to nearest. Written by tools/sine-table.py.
 ghost use Rattle.std.specs.Prelude.{◌≡◌};
 ghost use Rattle.sine_table.specs.Table.{entries};
 
@@ -8,9 +8,7 @@ pub const STEP: u64 = 600_000;
 // How many steps a quadrant has: the index of the last entry.
 pub const STEPS: usize = 5_400;
 
-pub type SineTable = [u32; 5_401];
-
-const ENTRIES: SineTable = [
+static ENTRIES: [u32; 5_401] = [
     0,
     290_888,
     581_776,
@@ -5415,8 +5413,8 @@ const ENTRIES: SineTable = [
 ];
 
 // The table. It is lent to every function that reads it, since each call of this one builds it anew.
-pub fn table() -> SineTable
-    ensures { result ≡ entries }
+pub fn table() -> &'static [u32; 5_401]
+    ensures { result.now ≡ entries }
 {
-    ENTRIES
+    &ENTRIES
 }

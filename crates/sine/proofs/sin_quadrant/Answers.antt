@@ -19,4 +19,4 @@ returns c =
     let s = c.before.before.before in
     let low = c.before.before.entry_at.ensures.0 in
     let high = c.before.entry_at-2.ensures.0 in
-    (c.interpolated.ensures.0 ∙ (λ i. interpolated (low i) (high i) (s.args.a % step)) ∙ simp (lt-ltb _ _ s.requires.1), c.interpolated.ensures.1)
+    (c.interpolated.ensures.0 ∙ (λ i. interpolated (low i) (high i) (s.args.a % step)) ∙ simp (lt-ltb _ _ s.requires), c.interpolated.ensures.1)

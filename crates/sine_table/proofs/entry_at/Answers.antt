@@ -1,4 +1,4 @@
--- The table lent is the list of entries.
+-- The number at an index of the table is the entry of the rule.
 use mathlib.Core.Path.{◌≡◌, ap, ◌∙◌}
 use mathlib.Core.List.{List}
 use Prim.Native.Nat.{ℕ}
@@ -9,7 +9,6 @@ use Rattle.sine_table.proofs.entry_at.Goals as goal
 
 pub returns : goal.returns
 returns c =
-    let start = c.before.before in
-    let n = start.args.n in
-    let e : c.wide.result ≡ entry_at n = c.wide.ensures ∙ ap (λ (l : List ℕ). get_or l n 0) start.requires.0 ∙ entry-at n start.requires.1 in
-    (e, rw e (entry-le n start.requires.1))
+    let n = c.args.n in
+    let e : c.from.result ≡ entry_at n = c.from.ensures ∙ ap (λ (l : List ℕ). get_or l n 0) c.table.ensures ∙ entry-at n c.requires in
+    (e, rw e (entry-le n c.requires))
