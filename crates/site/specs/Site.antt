@@ -1,13 +1,12 @@
 -- Document 01, "The card" (fields 8 and 9), "The horizon" (their units) and refusal 5 (RULES.md, "Fields", "The horizon" and "Refusals"): the position
 -- that two numbers name, north and east positive.
-use Rattle.std.specs.Prelude.{Bool, ◌&&◌, List, [], ◌∷◌, ℕ, ℤ, pos, neg_ℤ, ◌*ℤ◌}
+use Rattle.std.specs.Prelude.{Bool, ◌&&◌, List, [], ◌∷◌, ℕ, ℤ, pos, neg_ℤ, ◌*ℤ◌, Result, Ok, Err}
 use Rattle.refusal.specs.RefusalNumbers.{number_of}
 use Rattle.refusal.specs.Tests.{Test, test, decided}
+use Rattle.refusal.specs.declared.Refusal.{Refusal}
 use Rattle.exact.specs.Range.{between}
 use Rattle.site.specs.declared.Site.{Site}
 use Rattle.site.specs.declared.Position.{Position}
-use Rattle.site.specs.declared.Located.{Located}
-use Rattle.site.specs.declared.Located.TheVariants.{At, Refused}
 
 -- field 8, in 0.1″: to 89° north or south
 abbrev pub is_latitude : ℤ → Bool
@@ -46,7 +45,7 @@ site_tests site = test (is_site site) 5 ∷ []
 unfoldable pub position_of : Site → LocatedValues
 position_of site = decided (site_tests site) (accepted (position site)) refused
 
--- 01's number and values of each case of the code's answer
-abbrev pub located_values : Located → LocatedValues
-located_values (At p) = accepted p
-located_values (Refused r) = refused (number_of r)
+-- the number and the values of each case of the code's answer
+abbrev pub located_values : Result Position Refusal → LocatedValues
+located_values (Ok p) = accepted p
+located_values (Err r) = refused (number_of r)

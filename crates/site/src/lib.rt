@@ -1,4 +1,4 @@
-// Where the observer stands: document 01, "The card" (fields 8 and 9), "The horizon" and refusal 5. North and east are positive.
+// Where the observer stands: the position that fields 8 and 9 of the card name. North and east are positive.
 #![tactic(auto)]
 
 ghost use Rattle.std.specs.Prelude.{◌≡◌};
@@ -11,24 +11,17 @@ use refusal::Refusal;
 const TENTH: i64 = 1_000;
 
 // Fields 8 and 9 of the card, in 0.1 second of arc.
-#[derive(Clone, Copy)]
+#[derive(Clone, Copy, Debug, PartialEq, Eq)]
 pub struct Site {
     pub latitude: i64,
     pub longitude: i64,
 }
 
 // The same two in units of 0.0001 second of arc, as the horizon takes them.
-#[derive(Clone, Copy)]
+#[derive(Clone, Copy, Debug, PartialEq, Eq)]
 pub struct Position {
     pub latitude: i64,
     pub longitude: i64,
-}
-
-// What two numbers are answered with: the position, or refusal 5.
-#[derive(Clone, Copy)]
-pub enum Located {
-    At(Position),
-    Refused(Refusal),
 }
 
 // Whether a shot accepts two fields: a latitude to 89 degrees north or south, and any longitude, of which half a turn west is not one, as it
@@ -40,14 +33,14 @@ fn is_site(site: Site) -> bool
         && exact::between(-6_479_999, site.longitude, 6_480_000)
 }
 
-// The position of any two numbers.
-pub fn position_of(site: Site) -> Located
+// The position of any two numbers, or refusal 5.
+pub fn position_of(site: Site) -> Result<Position, Refusal>
     ensures { (located_values result ≡ position_of site) × LocatedSized result }
 {
     if !is_site(site) {
-        return Located::Refused(Refusal::NoPosition);
+        return Err(Refusal::NoPosition);
     }
-    Located::At(Position {
+    Ok(Position {
         latitude: site.latitude * TENTH,
         longitude: site.longitude * TENTH,
     })
