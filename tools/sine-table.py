@@ -1,5 +1,5 @@
 #!/usr/bin/env python3
-"""sine-table.py: writes crates/sine_table/src/entries.rt by document 01's rule, in exact fractions: R·P at each multiple of the step, rounded. The
+"""sine-table.py: writes crates/sine_table/src/entries.rt by the rule of docs/RULES.md, in exact fractions: R·P at each multiple of the step, rounded. The
 prover tests the file against the same rule, so nothing rests on this script. The rule's step stands in crates/sine_table/specs/Step.antt."""
 import os
 from math import factorial
@@ -18,9 +18,9 @@ rows = "".join("    " + f"{x:_},\n" for x in table)
 path = os.path.join(os.path.dirname(os.path.abspath(__file__)), "..", "crates", "sine_table", "src", "entries.rt")
 with open(path, "w") as out:
     out.write(
-        """// The table of document 01, "The sine": R·P at every STEP from 0 to a quadrant, to nearest. Written by tools/sine-table.py.
-ghost use mathlib.Core.Path.{_≡_};
-ghost use Rattle·sine_table·specs.specs.Table.{entries};
+        """// The sine's table: R·P at every STEP from 0 to a quadrant, to nearest. Written by tools/sine-table.py.
+ghost use Rattle.std.specs.Prelude.{◌≡◌};
+ghost use Rattle.sine_table.specs.Table.{entries};
 
 // The table's step in units of 0.0001 second of arc.
 pub const STEP: u64 = %s;
@@ -28,17 +28,15 @@ pub const STEP: u64 = %s;
 // How many steps a quadrant has: the index of the last entry.
 pub const STEPS: usize = %s;
 
-pub type SineTable = [u32; %s];
-
-const ENTRIES: SineTable = [
+static ENTRIES: [u32; %s] = [
 %s];
 
-// The table. It is lent to every function that reads it, since each call of this one builds it anew.
-pub fn table() -> SineTable
-    ensures { λ r. ⌜ r ≡ entries ⌝ }
+// The table.
+pub fn table() -> &'static [u32; %s]
+    ensures { result.now ≡ entries }
 {
-    ENTRIES
+    &ENTRIES
 }
 """
-        % (f"{STEP:_}", f"{len(table) - 1:_}", f"{len(table):_}", rows)
+        % (f"{STEP:_}", f"{len(table) - 1:_}", f"{len(table):_}", rows, f"{len(table):_}")
     )

@@ -5412,7 +5412,7 @@ static ENTRIES: [u32; 5_401] = [
     1_000_000_000,
 ];
 
-// The table. It is lent to every function that reads it, since each call of this one builds it anew.
+// The table.
 pub fn table() -> &'static [u32; 5_401]
     ensures { result.now ≡ entries }
 {
