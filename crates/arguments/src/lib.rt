@@ -1,4 +1,4 @@
-// The time arguments of document 01, "Time", and document 02, request 7: angles that grow nearly evenly with time, each by three coefficients.
+// The time arguments: angles that grow nearly evenly with time, each by three coefficients.
 #![tactic(auto)]
 
 mod tables;
@@ -22,13 +22,14 @@ pub fn argument(row: [i64; 4], e: Epoch) -> u64
     requires { RowSized row × InSpan e }
     ensures { (result ≡ argument (coefficients row) e) × (result < turn) }
 {
+    let [c0, whole, part, c2] = row;
     let rest = Polynomial {
-        c0: row[0],
+        c0,
         c1: 0,
-        c2: row[3],
+        c2,
         divisor: secular::SQUARE,
     };
-    exact::reduced_bounded(exact::per_century(row[1], row[2], e.n) + secular::value(rest, e.q))
+    exact::reduced_bounded(exact::per_century(whole, part, e.n) + secular::value(rest, e.q))
 }
 
 // The angles of any table of rows, one for each.
@@ -36,8 +37,8 @@ fn fill(angles: &mut [i64], rows: &[[i64; 4]], e: Epoch)
     requires { (length angles.old ≡ length rows.now) × RowsSized rows.now × InSpan e }
     ensures { angles.new ≡ arguments_by (map coefficients rows.now) e }
 {
-    for i in 0..rows.len() {
-        angles[i] = argument(rows[i], e) as i64;
+    for (i, row) in rows.iter().enumerate() {
+        angles[i] = argument(*row, e) as i64;
     }
 }
 
@@ -51,24 +52,13 @@ pub fn arguments_of(e: Epoch) -> [i64; COUNT]
     angles
 }
 
-// The four angles that the full edition of the Sun's series takes besides.
-fn further_arguments_of(e: Epoch) -> [i64; 4]
-    requires { InSpan e }
-    ensures { result ≡ arguments_by further_rows e }
-{
-    let mut angles = [0i64; 4];
-    fill(&mut angles, &tables::FURTHER_ROWS, e);
-    angles
-}
-
-// The arguments of an epoch with these behind them.
+// The arguments of an epoch, and behind them the four angles that the full edition of the Sun's series takes besides.
 pub fn full_arguments_of(arguments: &[i64; COUNT], e: Epoch) -> [i64; FULL_COUNT]
     requires { (arguments.now ≡ arguments_of e) × InSpan e }
     ensures { (result ≡ full_arguments_of e) × IsFullArguments result }
 {
-    let a = *arguments;
-    let b = further_arguments_of(e);
-    [
-        a[0], a[1], a[2], a[3], a[4], a[5], a[6], a[7], a[8], a[9], a[10], b[0], b[1], b[2], b[3],
-    ]
+    let mut angles = [0i64; FULL_COUNT];
+    angles[..COUNT].copy_from_slice(arguments);
+    fill(&mut angles[COUNT..], &tables::FURTHER_ROWS, e);
+    angles
 }

@@ -1,8 +1,7 @@
-use Prim.Native.Nat.{◌≤◌}
-use mathlib.Core.Path.{◌≡◌}
-use lib.ListN.{length}
+-- The angles stored so far, with those of the rows that are left, are all of them.
+use Rattle.std.proofs.Common.{◌≡◌, length}
 use Rattle.arguments.proofs.Filling.{Filled}
 use Rattle.arguments.proofs.fill.Given as goal
 
 abbrev pub invariant-loop-i : goal.invariant-loop-i
-invariant-loop-i l = (l.i-end ≡ length l.rows) × (l.i ≤ l.i-end) × (length l.angles ≡ length l.rows) × Filled l.rows l.e l.angles l.i
+invariant-loop-i l = record { all : length l.angles ≡ length l.rows; filled : Filled l.rows l.e l.angles l.i }
