@@ -1,13 +1,14 @@
--- Document 02, request 1 (RULES.md, "The mark"): of two lists of results, angles in units of 0.0001″, the one of smaller spread.
-use Rattle.std.specs.Prelude.{◌≡◌, refl, Bool, true, cond, ◌&&◌, List, [], ◌∷◌, ℕ, ◌-◌, ◌<◌, leb, eqb, ℤ, pos, ◌-ℤ◌, length}
+-- RULES.md, "The mark": of two lists of results, angles in units of 0.0001″, the one of smaller spread.
+use Rattle.std.specs.Prelude.{◌≡◌, refl, Bool, true, cond, ◌&&◌, List, [], ◌∷◌, ℕ, ◌-◌, ◌<◌, leb, eqb, ℤ, pos, ◌-ℤ◌, length, Result, Ok, Err}
 use Rattle.std.specs.Int.Signed.{lt_z}
 use Rattle.std.specs.Borrow.{Bor}
 use Rattle.refusal.specs.RefusalNumbers.{number_of}
 use Rattle.refusal.specs.Tests.{Test, test, decided}
 use Rattle.exact.specs.Range.{between}
 use Rattle.exact.specs.Reduction.{turn, is_reduced}
-use Rattle.spread.specs.declared.Choice.{Choice}
-use Rattle.spread.specs.declared.Choice.TheVariants.{First, Second, Refused}
+use Rattle.refusal.specs.declared.Refusal.{Refusal}
+use Rattle.spread.specs.declared.Side.{Side}
+use Rattle.spread.specs.declared.Side.TheVariants.{First, Second}
 
 -- ---- the spread
 abbrev pub larger : ℤ → ℤ → ℤ
@@ -68,10 +69,10 @@ unfoldable pub choice : List ℤ → List ℤ → ChoiceValues
 choice a b = decided (choice_tests a b) (cond (lt_z (spread b) (spread a)) (whole 2 b) (whole 1 a)) refused
 
 -- the number and the values of each case of the code's answer
-abbrev pub choice_values : List ℤ → List ℤ → Choice → ChoiceValues
-choice_values a b First = whole 1 a
-choice_values a b Second = whole 2 b
-choice_values a b (Refused r) = refused (number_of r)
+abbrev pub choice_values : List ℤ → List ℤ → Result Side Refusal → ChoiceValues
+choice_values a b (Ok First) = whole 1 a
+choice_values a b (Ok Second) = whole 2 b
+choice_values a b (Err r) = refused (number_of r)
 
 -- ---- the list that is handed back
 -- where nothing is refused, the slice that was lent, its place and its numbers; else the empty front of the first, at the first's place
