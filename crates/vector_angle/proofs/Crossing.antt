@@ -4,10 +4,11 @@
 use mathlib.Core.Path.{◌≡◌, sym, ap, ◌∙◌}
 use mathlib.Core.Bool.{true, false}
 use mathlib.Core.Logic.{⊎_elim}
-use Prim.Native.Nat.{ℕ, suc, ◌+◌, ◌-◌, ◌*◌, ◌/◌, ◌≤◌, ◌<◌}
-use native.Mathlib.Nat.{mul-le-mul_left, le_of_mul-le-mul_left, lt_of_mul-lt-mul_left, eq-zero-or-pos, add-zero}
+use Prim.Native.Nat.{ℕ, suc, ◌+◌, ◌-◌, ◌*◌, ◌/◌, ◌≤◌, ◌<◌, min}
+use native.Mathlib.Nat.{mul-le-mul_left, le_of_mul-le-mul_left, lt_of_mul-lt-mul_left, eq-zero-or-pos, add-zero, min-eq_left, min-eq_right}
 use native.Mathlib.Omega.{arith}
 use lib.Dec.{lit<}
+use Rattle.std.proofs.lemmas.Bool.{cases_lt}
 use borrow.Author.Tests.{le-leb, lt-leb, leb-true, leb-false}
 use Rattle.exact.specs.Largest.{Among}
 use Rattle.exact.proofs.Division.{Rounds, rounds}
@@ -164,22 +165,28 @@ module _ (x y n s c p q : ℕ) (e : IsStep n s c p q) (a : Among (start_passes x
         no = fails-at 4 (omega arith) (omega (arith, slope-least));
       }
 
-  -- at r, the share of half a step that twice the gap less x + y is of the slope
+  -- at r, the share of half a step that twice the gap less x + y is of the slope; or at the last four units, where r is beyond the first of them
   module _ (r : ℕ) (h : x + y ≤ 2 * gap) (least : r * slope ≤ (2 * gap - (x + y)) * (step / 2)) where
-    pub before-end : step ≤ r + 4 → Window (step - 4)
+    before-end : step - 4 ≤ r → Window (step - 4)
     before-end k =
-        let l : step - 4 ≤ r = omega arith in
         let end : step * (n + 1) ≡ step * n + (step - 4 + 4) = omega arith in
         record {
           within = omega arith;
-          yes = passes_at (step - 4) (omega arith) (omega (arith, mul-le-mul_left slope l, least));
+          yes = passes_at (step - 4) (omega arith) (omega (arith, mul-le-mul_left slope k, least));
           no = ap (passes x y) (sym end) ∙ a.no;
         }
 
-    pub at-share : r + 4 ≤ step → 20 * ((2 * gap - (x + y)) * (step / 2)) < (20 * r + 21) * slope → Window r
-    at-share k most =
-        record {
-          within = k;
-          yes = passes_at r (omega arith) (omega (arith, least));
-          no = fails-at (r + 4) k (omega (arith, most, slope-least));
-        }
+    module _ (most : 20 * ((2 * gap - (x + y)) * (step / 2)) < (20 * r + 21) * slope) where
+      inside : r < step - 4 → Window r
+      inside k =
+          record {
+            within = omega arith;
+            yes = passes_at r (omega arith) (omega (arith, least));
+            no = fails-at (r + 4) (omega arith) (omega (arith, most, slope-least));
+          }
+
+      pub at-share : Window (min r (step - 4))
+      at-share =
+          ⊎_elim (λ (k : r < step - 4). let l : r ≤ step - 4 = omega arith in rw min-eq_left (inside k))
+          (λ (k : step - 4 ≤ r). rw min-eq_right (before-end k))
+          (cases_lt r (step - 4))

@@ -1,7 +1,7 @@
 -- The angle of a vector by the tests of its components' signs, as the code makes them.
 use mathlib.Core.Path.{◌≡◌, refl, sym, subst}
 use mathlib.Core.Bool.{true, false}
-use Prim.Native.Nat.{ℕ, zero, suc, ◌+◌, ◌*◌, ◌<◌}
+use Prim.Native.Nat.{ℕ, zero, suc, ◌+◌, ◌*◌}
 use native.Mathlib.Omega.{arith}
 use lib.Dec.{T}
 use lib.IntN.{ℤ, pos, negsuc, nat_abs}
@@ -19,15 +19,6 @@ under-zero n e = omega (arith, ltb-true n 0 e)
 
 over_zero : (n : ℕ) → lt_z (pos 0) (pos (suc n)) ≡ false → ⊥
 over_zero n e = omega (arith, ltb-false 0 (suc n) e)
-
--- ---- a component on one side of 0 is not 0
-pub left-some : (z : ℤ) → lt_z z (pos 0) ≡ true → 0 < nat_abs z
-left-some (pos n) h = absurd (under-zero n h)
-left-some (negsuc n) h = omega arith
-
-pub right-some : (z : ℤ) → lt_z (pos 0) z ≡ true → 0 < nat_abs z
-right-some (pos n) h = ltb-true 0 n h
-right-some (negsuc n) h = absurd (no h)
 
 -- ---- the angle, branch by branch
 pub left_up : (x y : ℤ) → lt_z x (pos 0) ≡ true → lt_z (pos 0) y ≡ true → angle x y ≡ Q + quadrant_angle (nat_abs y) (nat_abs x)

@@ -1,17 +1,15 @@
-// The angle of a vector: document 01, "The sine"; document 02, request 2.
-//
-// Components are numbers of at most 2^34, an angle is in units of 0.0001 second of arc. The sine's table is lent.
+// The angle of a vector. Components are numbers of at most 2^34, an angle is in units of 0.0001 second of arc.
 #![tactic(auto)]
 
 ghost use Rattle.std.specs.Prelude.{◌≡◌, ◌+◌, ◌*◌, ◌/◌, ◌≤◌, ◌<◌, ◌^◌, nat_abs};
 ghost use Rattle.exact.specs.Reduction.{Q, turn};
 ghost use Rattle.exact.specs.Largest.{Among};
 ghost use Rattle.sine_table.specs.Step.{step};
-ghost use Rattle.sine_table.specs.Table.{step_count, entries};
+ghost use Rattle.sine_table.specs.Table.{step_count};
 ghost use Rattle.vector_angle.specs.VectorAngle.{start_passes, last_step, IsStep, unit_passes, last_unit, quadrant_angle, angle};
 
 use sine::QUADRANT;
-use sine_table::{STEP, STEPS, SineTable};
+use sine_table::{STEP, STEPS};
 
 // 2^43: half a step times a number below it fits in 64 bits.
 const LARGE: u64 = 8_796_093_022_208;
@@ -19,69 +17,35 @@ const LARGE: u64 = 8_796_093_022_208;
 // 2^14: other numbers are divided in grains of so many.
 const GRAIN: u64 = 16_384;
 
-// The sine and the cosine at the start of a step, and how far the one rises and the other falls to its end.
+// Step n of the table: the sine and the cosine at its start, and how far the one rises and the other falls to its end.
 #[derive(Clone, Copy)]
 struct Step {
+    n: usize,
     sine: u64,
     cosine: u64,
     rise: u64,
     fall: u64,
+    ghost in_table: { n < step_count },
+    ghost is_step: { IsStep n sine cosine rise fall },
 }
 
-// Whether the start of step n passes, from which on the table has `rest` steps: the sine there is an entry, and so is the cosine, as far
-// from the other end.
-fn start_passes(t: &SineTable, x: u64, y: u64, n: usize, rest: usize) -> bool
-    requires { (t.now ≡ entries) × (x ≤ 2 ^ 34) × (y ≤ 2 ^ 34) × (n + rest ≡ step_count) }
-    ensures { result ≡ start_passes x y n }
-{
-    x * sine_table::entry_at(t, n) <= y * sine_table::entry_at(t, rest)
-}
-
-// The last step whose start passes, by halves: it is one of the `left` steps from n on.
-fn last_step(t: &SineTable, x: u64, y: u64) -> usize
-    requires { (t.now ≡ entries) × (0 < x) × (x ≤ 2 ^ 34) × (y ≤ 2 ^ 34) }
-    ensures { (result ≡ last_step x y) × Among (start_passes x y) result 1 step_count }
-{
-    let mut n: usize = 0;
-    let mut rest: usize = STEPS;
-    let mut left: usize = STEPS;
-    while 1 < left {
-        let half = left / 2;
-        if start_passes(t, x, y, n + half, rest - half) {
-            n = n + half;
-            rest = rest - half;
+impl Step {
+    fn at(n: usize) -> Step
+        requires { n < step_count }
+        ensures { result.n ≡ n }
+    {
+        let sine = sine_table::entry_at(n);
+        let cosine = sine_table::entry_at(STEPS - n);
+        let rise = sine_table::entry_at(n + 1) - sine;
+        let fall = cosine - sine_table::entry_at(STEPS - n - 1);
+        Step {
+            n,
+            sine,
+            cosine,
+            rise,
+            fall,
         }
-        left = left - half;
     }
-    n
-}
-
-// Step n of the table.
-fn step_at(t: &SineTable, n: usize) -> Step
-    requires { (t.now ≡ entries) × (n < step_count) }
-    ensures { IsStep n result.sine result.cosine result.rise result.fall }
-{
-    let sine = sine_table::entry_at(t, n);
-    let cosine = sine_table::entry_at(t, STEPS - n);
-    let rise = sine_table::entry_at(t, n + 1) - sine;
-    let fall = cosine - sine_table::entry_at(t, STEPS - n - 1);
-    Step {
-        sine,
-        cosine,
-        rise,
-        fall,
-    }
-}
-
-// Whether the angle r units into step n passes.
-fn unit_passes(t: &SineTable, x: u64, y: u64, n: usize, r: u64) -> bool
-    requires { (t.now ≡ entries) × (x ≤ 2 ^ 34) × (y ≤ 2 ^ 34) × (n < step_count) × (r ≤ step) }
-    ensures { result ≡ unit_passes x y n r }
-{
-    let s = step_at(t, n);
-    let sine = sine::interpolated(s.sine, s.sine + s.rise, r);
-    let cosine = sine::interpolated(s.cosine - s.fall, s.cosine, STEP - r);
-    x * sine <= y * cosine
 }
 
 // How many units part/whole of half a step is, rounded down: of small numbers exactly, and of large ones, divided in grains, with up to
@@ -97,72 +61,119 @@ fn share(part: u64, whole: u64) -> u64
     }
 }
 
-// The first of four units of step n among which is the last that passes. Over the step x·Sin and y·Cos are straight lines, but for their
-// roundings: at its start y·Cos is ahead by `gap`, and to its end the two come nearer by `slope`. As a rounding is a half at most, the
-// test passes while y·Cos is ahead by (x + y) / 2, and fails once it is behind by more than that, less than three units on.
-fn window(t: &SineTable, x: u64, y: u64, n: usize) -> u64
-    requires { (t.now ≡ entries) × (x ≤ 2 ^ 34) × (y ≤ 2 ^ 34) × Among (start_passes x y) n 1 step_count }
-    ensures { Among (unit_passes x y n) result 4 step }
-{
-    let s = step_at(t, n);
-    let gap = y * s.cosine - x * s.sine;
-    let slope = x * s.rise + y * s.fall;
-    if 2 * gap < x + y {
-        return 0;
+// A vector of the first quadrant, with components whose products with a sine fit in 64 bits.
+#[derive(Clone, Copy)]
+struct Vector {
+    x: u64,
+    y: u64,
+    ghost x_bounded: { x ≤ 2 ^ 34 },
+    ghost y_bounded: { y ≤ 2 ^ 34 },
+}
+
+impl Vector {
+    // Whether the start of step n passes: the sine there is an entry, and so is the cosine, as far from the table's other end.
+    fn start_passes(self, n: usize) -> bool
+        requires { n ≤ step_count }
+        ensures { result ≡ start_passes self.x self.y n }
+    {
+        self.x * sine_table::entry_at(n) <= self.y * sine_table::entry_at(STEPS - n)
     }
-    let r = share(2 * gap - (x + y), slope);
-    if r < STEP - 4 { r } else { STEP - 4 }
-}
 
-// One try: of the units of step n from r on, twice `half` of them, the first of the half that has the last that passes.
-fn nearer(t: &SineTable, x: u64, y: u64, n: usize, r: u64, half: u64) -> u64
-    requires { (t.now ≡ entries) × (x ≤ 2 ^ 34) × (y ≤ 2 ^ 34) × (n < step_count) × Among (unit_passes x y n) r (2 * half) step }
-    ensures { Among (unit_passes x y n) result half step }
-{
-    if unit_passes(t, x, y, n, r + half) {
-        r + half
-    } else {
-        r
+    // The last step whose start passes, by halves: it is one of the `left` steps from n on.
+    fn last_step(self) -> usize
+        requires { 0 < self.x }
+        ensures { (result ≡ last_step self.x self.y) × Among (start_passes self.x self.y) result 1 step_count }
+    {
+        let mut n: usize = 0;
+        let mut left: usize = STEPS;
+        while 1 < left {
+            let half = left / 2;
+            if self.start_passes(n + half) {
+                n += half;
+            }
+            left -= half;
+        }
+        n
     }
-}
 
-// The last unit of step n that passes. Two tries settle which of the four it is.
-fn last_unit(t: &SineTable, x: u64, y: u64, n: usize) -> u64
-    requires { (t.now ≡ entries) × (x ≤ 2 ^ 34) × (y ≤ 2 ^ 34) × Among (start_passes x y) n 1 step_count }
-    ensures { (result ≡ last_unit x y n) × (result < step) }
-{
-    let r = nearer(t, x, y, n, window(t, x, y, n), 2);
-    nearer(t, x, y, n, r, 1)
-}
+    // Whether the angle r units into a step passes.
+    fn unit_passes(self, s: Step, r: u64) -> bool
+        requires { r ≤ step }
+        ensures { result ≡ unit_passes self.x self.y s.n r }
+    {
+        let sine = sine::interpolated(s.sine, s.sine + s.rise, r);
+        let cosine = sine::interpolated(s.cosine - s.fall, s.cosine, STEP - r);
+        self.x * sine <= self.y * cosine
+    }
 
-// The largest angle of the first quadrant that passes: the step by the table alone, then the units into it.
-fn quadrant_angle(t: &SineTable, x: u64, y: u64) -> u64
-    requires { (t.now ≡ entries) × (0 < x) × (x ≤ 2 ^ 34) × (y ≤ 2 ^ 34) }
-    ensures { (result ≡ quadrant_angle x y) × (result < Q) }
-{
-    let n = last_step(t, x, y);
-    STEP * (n as u64) + last_unit(t, x, y, n)
+    // The first of four units of a step among which is the last that passes. Over the step x·Sin and y·Cos are straight lines, but for
+    // their roundings: at its start y·Cos is ahead by `gap`, and to its end the two come nearer by `slope`. As a rounding is a half at
+    // most, the test passes while y·Cos is ahead by (x + y) / 2, and fails once it is behind by more than that, less than three units on.
+    fn window(self, s: Step) -> u64
+        requires { Among (start_passes self.x self.y) s.n 1 step_count }
+        ensures { Among (unit_passes self.x self.y s.n) result 4 step }
+    {
+        let gap = self.y * s.cosine - self.x * s.sine;
+        let slope = self.x * s.rise + self.y * s.fall;
+        let open = self.x + self.y;
+        if 2 * gap < open {
+            return 0;
+        }
+        share(2 * gap - open, slope).min(STEP - 4)
+    }
+
+    // One try: of the units of a step from r on, twice `half` of them, the first of the half that has the last that passes.
+    fn nearer(self, s: Step, r: u64, half: u64) -> u64
+        requires { Among (unit_passes self.x self.y s.n) r (2 * half) step }
+        ensures { Among (unit_passes self.x self.y s.n) result half step }
+    {
+        if self.unit_passes(s, r + half) {
+            r + half
+        } else {
+            r
+        }
+    }
+
+    // The last unit of a step that passes. Two tries settle which of the four it is.
+    fn last_unit(self, s: Step) -> u64
+        requires { Among (start_passes self.x self.y) s.n 1 step_count }
+        ensures { (result ≡ last_unit self.x self.y s.n) × (result < step) }
+    {
+        let r = self.nearer(s, self.window(s), 2);
+        self.nearer(s, r, 1)
+    }
+
+    // The largest angle of the first quadrant that passes: the step by the table alone, then the units into it.
+    fn quadrant_angle(self) -> u64
+        requires { 0 < self.x }
+        ensures { (result ≡ quadrant_angle self.x self.y) × (result < Q) }
+    {
+        let n = self.last_step();
+        STEP * (n as u64) + self.last_unit(Step::at(n))
+    }
 }
 
 // The angle of the vector (x, y), reduced: by the signs of its components, a search in the first quadrant and whole quadrants.
-pub fn angle(t: &SineTable, x: i64, y: i64) -> u64
-    requires { (t.now ≡ entries) × (nat_abs x ≤ 2 ^ 34) × (nat_abs y ≤ 2 ^ 34) }
+pub fn angle(x: i64, y: i64) -> u64
+    requires { (nat_abs x ≤ 2 ^ 34) × (nat_abs y ≤ 2 ^ 34) }
     ensures { (result ≡ angle x y) × (result < turn) }
 {
     let p = exact::magnitude(x);
     let q = exact::magnitude(y);
+    let v = Vector { x: p, y: q };
+    let turned = Vector { x: q, y: p };
     if x < 0 {
         if 0 < y {
-            QUADRANT + quadrant_angle(t, q, p)
+            QUADRANT + turned.quadrant_angle()
         } else {
-            2 * QUADRANT + quadrant_angle(t, p, q)
+            2 * QUADRANT + v.quadrant_angle()
         }
     } else if y < 0 {
-        3 * QUADRANT + quadrant_angle(t, q, p)
+        3 * QUADRANT + turned.quadrant_angle()
     } else if 0 < x {
-        quadrant_angle(t, p, q)
+        v.quadrant_angle()
     } else if 0 < y {
-        QUADRANT + quadrant_angle(t, q, p)
+        QUADRANT + turned.quadrant_angle()
     } else {
         0
     }
