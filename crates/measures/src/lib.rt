@@ -1,12 +1,10 @@
-// Runs of sines and of angles of a vector with the table lent, for bench/: how many instructions one takes is the difference of two
+// Runs of sines and of angles of a vector, for bench/: how many instructions one takes is the difference of two
 // runs. What a run answers depends on all that is found in it, so that the compiler can leave out nothing.
 #![tactic(auto)]
 
 ghost use Rattle.std.specs.Prelude.{◌≡◌, ◌≤◌, ◌<◌, nat_abs};
 ghost use Rattle.exact.specs.Reduction.{turn};
-ghost use Rattle.sine_table.specs.Table.{R, entries};
-
-use sine_table::SineTable;
+ghost use Rattle.sine_table.specs.Table.{R};
 
 const TURN: u64 = 4 * sine::QUADRANT;
 
@@ -22,14 +20,14 @@ fn size(sine: i64) -> u64
 }
 
 // What a run of a kind finds at the angle a: 1 its sine, 2 its sine and its cosine, 3 the angle of both, and any other nothing.
-fn found(t: &SineTable, kind: u64, a: u64) -> u64
-    requires { (t.now ≡ entries) × (a < turn) }
+fn found(kind: u64, a: u64) -> u64
+    requires { a < turn }
     ensures { result < turn }
 {
     match kind {
-        1 => size(sine::sin(t, a)),
-        2 => size(sine::sin(t, a)) + size(sine::cos(t, a)),
-        3 => vector_angle::angle(t, sine::cos(t, a), sine::sin(t, a)),
+        1 => size(sine::sin(a)),
+        2 => size(sine::sin(a)) + size(sine::cos(a)),
+        3 => vector_angle::angle(sine::cos(a), sine::sin(a)),
         _ => a,
     }
 }
@@ -37,10 +35,9 @@ fn found(t: &SineTable, kind: u64, a: u64) -> u64
 // A run: how many angles, and its kind. It answers the angle that comes after the last.
 #[unsafe(no_mangle)]
 pub extern "C" fn measured(kind: u64, count: u64) -> u64 {
-    let t = sine_table::table();
     let mut a: u64 = 0;
     for i in 0..count {
-        a = (a + STRIDE + found(&t, kind, a)) % TURN;
+        a = (a + STRIDE + found(kind, a)) % TURN;
     }
     a
 }
