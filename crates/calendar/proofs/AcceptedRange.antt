@@ -22,6 +22,17 @@ use Rattle.calendar.specs.declared.CivilTime.{CivilTime}
 use Rattle.calendar.specs.declared.Epochs.{Epochs}
 use Rattle.calendar.proofs.Count.{upto_le, in-range}
 
+-- ---- the eight numbers as the machine holds them
+pub record Fit (t : CivilTime) : Type 0 where
+  pub year : SFits w64 t.year
+  pub month : SFits w64 t.month
+  pub day : SFits w64 t.day
+  pub hour : SFits w64 t.hour
+  pub minute : SFits w64 t.minute
+  pub millisecond : SFits w64 t.millisecond
+  pub dut1 : SFits w64 t.dut1
+  pub delta_t : SFits w64 t.delta_t
+
 -- ---- the year, the month and D
 pub month-range : (y m d : ℤ) → is_date y m d ≡ true → ((1976 ≤ nat_abs y) × (nat_abs y ≤ 2049)) × (1 ≤ nat_abs m) × (nat_abs m ≤ 12)
 unfolding is_date

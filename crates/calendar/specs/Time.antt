@@ -1,16 +1,15 @@
 -- Document 01, "The card" (fields 4 to 7), "Time" and refusals 2, 3 and 4; document 02, request 3 (field 11, refusal 17) (RULES.md, "Fields", "Time" and
 -- "Refusals"): the instant that eight numbers name. Hours, minutes and the rest are looked at only with a date, and only where they are not negative:
 -- `nat_abs` is then the number itself.
-use Rattle.std.specs.Prelude.{Bool, cond, ◌&&◌, ◌||◌, List, [], ◌∷◌, ℕ, ◌+◌, ◌*◌, eqb, ℤ, pos, neg_ℤ, nat_abs, ◌+ℤ◌, ◌-ℤ◌}
+use Rattle.std.specs.Prelude.{Bool, cond, ◌&&◌, ◌||◌, List, [], ◌∷◌, ℕ, ◌+◌, ◌*◌, eqb, ℤ, pos, neg_ℤ, nat_abs, ◌+ℤ◌, ◌-ℤ◌, Result, Ok, Err}
 use Rattle.refusal.specs.RefusalNumbers.{number_of}
 use Rattle.refusal.specs.Tests.{Test, test, decided}
+use Rattle.refusal.specs.declared.Refusal.{Refusal}
 use Rattle.exact.specs.Range.{between}
 use Rattle.epoch.specs.Epoch.{epoch, epoch_of}
 use Rattle.calendar.specs.Date.{is_date, day_count}
 use Rattle.calendar.specs.declared.CivilTime.{CivilTime}
 use Rattle.calendar.specs.declared.Epochs.{Epochs}
-use Rattle.calendar.specs.declared.Instant.{Instant}
-use Rattle.calendar.specs.declared.Instant.TheVariants.{Accepted, Refused}
 
 -- 30 June or 31 December, on which the last minute may have a leap second
 unfoldable pub leap_second_day : ℕ → ℕ → Bool
@@ -80,6 +79,6 @@ unfoldable pub instant_of : CivilTime → InstantValues
 instant_of t = decided (instant_tests t) (accepted (instant_epochs t)) refused
 
 -- the number and values of each case of the code's answer
-abbrev pub instant_values : Instant → InstantValues
-instant_values (Accepted es) = accepted es
-instant_values (Refused r) = refused (number_of r)
+abbrev pub instant_values : Result Epochs Refusal → InstantValues
+instant_values (Ok es) = accepted es
+instant_values (Err r) = refused (number_of r)

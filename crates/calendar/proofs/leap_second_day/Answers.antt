@@ -1,22 +1,17 @@
--- June and December, each by its own test.
-use mathlib.Core.Path.{◌≡◌, refl}
-use mathlib.Core.Bool.{Bool, true, false, ◌||◌}
-use borrow.Author.Tests.{eq-eqb, ne_eqb}
+-- Each test is one of `leap_second_day`'s.
+use Rattle.std.proofs.Common.{arith}
+use Rattle.std.proofs.lemmas.Bool.Decides.{nat_tests}
 use Rattle.calendar.specs.Time.{leap_second_day}
 use Rattle.calendar.proofs.leap_second_day.Goals as goal
 
-or-false : (b : Bool) → b ≡ (b || false)
-or-false true = refl
-or-false false = refl
-
-pub returns-then-month-eq6 : goal.returns-then-month-eq6
+pub returns-then-day-eq30 : goal.returns-then-day-eq30
 unfolding leap_second_day
-returns-then-month-eq6 c = rw c.if-month-eq6.true (or-false _)
+returns-then-day-eq30 c = grind (arith, nat_tests)
 
 pub returns-then-month-eq12 : goal.returns-then-month-eq12
 unfolding leap_second_day
-returns-then-month-eq12 c = simp (ne_eqb _ _ c.before.if-month-eq6.false, eq-eqb _ _ c.if-month-eq12.true)
+returns-then-month-eq12 c = grind (arith, nat_tests)
 
 pub returns-else-month-eq12 : goal.returns-else-month-eq12
 unfolding leap_second_day
-returns-else-month-eq12 c = simp (ne_eqb _ _ c.before.if-month-eq6.false, ne_eqb _ _ c.if-month-eq12.false)
+returns-else-month-eq12 c = grind (arith, nat_tests)

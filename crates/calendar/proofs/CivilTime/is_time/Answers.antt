@@ -1,20 +1,21 @@
 -- Each test is one of `is_time`'s.
+use Rattle.std.proofs.Common.{arith, rules}
 use mathlib.Core.Path.{◌≡◌, sym, ap, ◌∙◌}
 use Prim.Native.Nat.{ℕ}
-use native.Mathlib.Omega.{arith}
 use lib.IntN.{pos, nat_abs}
 use mir.Facts.{to_z-of_z}
 use mir.Syntax.{w64}
 use mir.Val.{SFits}
 use Rattle.exact.specs.Range.{between}
 use Rattle.calendar.specs.Time.{last_millisecond, is_time}
-use Rattle.calendar.proofs.is_time.Goals as goal
+use Rattle.calendar.proofs.AcceptedRange.{Fit}
+use Rattle.calendar.proofs.CivilTime.is_time.Goals as goal
 
 pub returns-then-between-2 : goal.returns-then-between-2
 unfolding is_time
 returns-then-between-2 c =
-    let a = c.args in
-    let r = c.ranges in
+    let a = c.args.self in
+    let r : Fit a = search rules in
     let hour = simp (to_z-of_z, r.hour) at c.between.ensures in
     let minute = simp (to_z-of_z, r.minute) at c.between-then-between.ensures in
     let month = simp (to_z-of_z, r.month) at c.magnitude.ensures in
@@ -31,10 +32,13 @@ returns-then-between-2 c =
 pub returns-else-between-2 : goal.returns-else-between-2
 unfolding is_time
 returns-else-between-2 c =
-    let hour = simp (to_z-of_z, c.ranges.hour) at c.between.ensures in
-    let minute = simp (to_z-of_z, c.ranges.minute) at c.between-then-between.ensures in
+    let r : Fit c.args.self = search rules in
+    let hour = simp (to_z-of_z, r.hour) at c.between.ensures in
+    let minute = simp (to_z-of_z, r.minute) at c.between-then-between.ensures in
     simp (sym hour ∙ c.if-between.true, sym minute ∙ c.if-between-2.false) c.if-between-2.false
 
 pub returns-else-between : goal.returns-else-between
 unfolding is_time
-returns-else-between c = let hour = simp (to_z-of_z, c.ranges.hour) at c.between.ensures in simp (sym hour ∙ c.if-between.false) c.if-between.false
+returns-else-between c =
+    let r : Fit c.args.self = search rules in
+    let hour = simp (to_z-of_z, r.hour) at c.between.ensures in simp (sym hour ∙ c.if-between.false) c.if-between.false
