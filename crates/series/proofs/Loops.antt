@@ -7,7 +7,7 @@ use native.Mathlib.Nat.{le_trans}
 use native.Mathlib.Omega.{arith}
 use lib.IntN.{ℤ, pos, nat_abs, ◌+ℤ◌}
 use lib.ListN.{length, get_or, take, drop, drop_of_length-le}
-use lib.Seq.{drop-cons, drop-drop}
+use lib.Seq.{drop-cons}
 use mir.Syntax.{w64}
 use mir.Val.{SFits}
 use Rattle.exact.proofs.Differences.{split, zs}
@@ -79,22 +79,20 @@ module _ (arguments : List ℤ) (q : ℤ) where
     rows-sum i sum h l =
         left-none (map g rows) sum (subst (λ (rs : List (List ℤ)). Left (map g rows) (map g rs) sum) (drop_of_length-le rows {i = i} h) l)
 
--- ---- groups of rows: the group at i, whose rows begin at `from`, and the groups behind it
-module _ (groups : List (List ℕ)) (rows : List (List ℤ)) (i from : ℕ) (h : i < length groups) where
+-- ---- groups of rows: the group at i, with whose rows `rest` begins, and the groups behind it
+module _ (groups : List (List ℕ)) (rest : List (List ℤ)) (i : ℕ) (h : i < length groups) where
   abbrev g : List ℕ
   g = get_or groups i []
 
   abbrev pub group_terms : List Term
-  group_terms = map (steady_term (index g 0) (index g 1) (index g 2)) (take (row_count g) (drop from rows))
+  group_terms = map (steady_term (index g 0) (index g 1) (index g 2)) (take (row_count g) rest)
 
   abbrev pub behind : List Term
-  behind = steady_terms (drop (suc i) groups) (drop (from + row_count g) rows)
+  behind = steady_terms (drop (suc i) groups) (drop (row_count g) rest)
 
-  pub groups-next : steady_terms (drop i groups) (drop from rows) ≡ group_terms ++ behind
+  pub groups-next : steady_terms (drop i groups) rest ≡ group_terms ++ behind
   unfolding steady_terms
-  groups-next =
-      ap (λ (gs : List (List ℕ)). steady_terms gs (drop from rows)) (drop-cons groups i [] h)
-      ∙ ap (λ (rs : List (List ℤ)). group_terms ++ steady_terms (drop (suc i) groups) rs) (drop-drop (row_count g) from rows)
+  groups-next = ap (λ (gs : List (List ℕ)). steady_terms gs rest) (drop-cons groups i [] h)
 
   pub counts-next : counts (drop i groups) ≡ row_count g + counts (drop (suc i) groups)
   unfolding counts

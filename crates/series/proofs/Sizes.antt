@@ -1,6 +1,6 @@
 -- The bounds of rows at work: a multiple of an argument is small, and the rows of a part of a table keep what each row of the table has. What a sum
 -- asks of a table follows from one test that antt computes.
-use mathlib.Core.Path.{◌≡◌, subst⁻¹, ◌∙◌}
+use mathlib.Core.Path.{◌≡◌, subst⁻¹}
 use mathlib.Core.Bool.{Bool, ◌&&◌}
 use mathlib.Core.List.{List, []}
 use Prim.Native.Nat.{ℕ, ◌+◌, ◌^◌, ◌≤◌, ◌<◌}
@@ -16,7 +16,6 @@ use Rattle.exact.specs.Sizes.{AllReduced}
 use Rattle.exact.proofs.Integers.{abs-*-le}
 use Rattle.exact.proofs.AllBelow.{and_l, and_r, all_below, below_all}
 use Rattle.secular.specs.Sizes.{most_millionths}
-use Rattle.sine_table.specs.Table.{entries}
 use Rattle.series.specs.Sum.{weights}
 use Rattle.series.specs.Rows.{index, steady_terms, varying_terms, terms}
 use Rattle.series.specs.Sizes.{Each, AtMost, steady_bounds, varying_bounds, heaviest, Indexed, counts, SteadyReady, VaryingRow, VaryingReady}
@@ -24,11 +23,15 @@ use Rattle.series.specs.Sizes.{Each, AtMost, steady_bounds, varying_bounds, heav
 pub multiple-le : (x a : ℤ) → nat_abs x ≤ 255 → nat_abs a < turn → nat_abs (x *ℤ a) ≤ 2 ^ 42
 multiple-le x a h k = omega (arith, abs-*-le x a 255 turn h (omega arith))
 
--- ---- a part of a table
-pub each_part : (P : List ℤ → Type 0) (rows : List (List ℤ)) (from n : ℕ) → from + n ≤ length rows → Each P rows → Each P (take n (drop from rows))
-each_part P rows from n h each i l =
-    let long : length (take n (drop from rows)) ≡ n = length-take-le n (drop from rows) (rw (length-drop from rows) (omega arith)) in
-    subst⁻¹ P (get_or-take n (drop from rows) i [] (omega arith) ∙ get_or-drop from rows i []) (each (from + i) (omega arith))
+-- ---- the front of a table, and what is behind it
+module _ (P : List ℤ → Type 0) (rows : List (List ℤ)) (n : ℕ) (h : n ≤ length rows) (each : Each P rows) where
+  pub each_front : Each P (take n rows)
+  each_front i l =
+      let long = length-take-le n rows h in
+      subst⁻¹ P (get_or-take n rows i [] (omega arith)) (each i (omega arith))
+
+  pub each_behind : Each P (drop n rows)
+  each_behind i l = subst⁻¹ P (get_or-drop n rows i []) (each (n + i) (omega (arith, length-drop n rows)))
 
 -- ---- the tests
 each : {A : Type 0} (P : List A → Type 0) (p : List A → Bool) → ((row : List A) → T (p row) → P row)
@@ -68,9 +71,9 @@ steady_tables k groups rows =
     (all_below (λ i. indexed k (get_or groups i [])) (length groups) && all_below (λ i. at_most steady_bounds (get_or rows i [])) (length rows))
     && (leb (counts groups) (length rows) && leb (weights (steady_terms groups rows)) heaviest)
 
-pub steady-ready : (k : ℕ) {table : List ℕ} {groups : List (List ℕ)} {rows : List (List ℤ)} {arguments : List ℤ} → table ≡ entries → AllReduced arguments
-    → length arguments ≡ k → T (steady_tables k groups rows) → SteadyReady table groups rows arguments
-steady-ready k {table} {groups} {rows} {arguments} t a l h =
+pub steady-ready : (k : ℕ) {groups : List (List ℕ)} {rows : List (List ℤ)} {arguments : List ℤ} → AllReduced arguments
+    → length arguments ≡ k → T (steady_tables k groups rows) → SteadyReady groups rows arguments
+steady-ready k {groups} {rows} {arguments} a l h =
     let p = all_below (λ i. indexed k (get_or groups i [])) (length groups) in
     let r = all_below (λ i. at_most steady_bounds (get_or rows i [])) (length rows) in
     let n = leb (counts groups) (length rows) in
@@ -78,7 +81,6 @@ steady-ready k {table} {groups} {rows} {arguments} t a l h =
     let tables = and_l (p && r) (n && w) h in
     let sizes = and_r (p && r) (n && w) h in
     record {
-      sines = t;
       angles = a;
       indexed = rw l (each (Indexed k) (indexed k) (is-indexed k) groups (and_l p r tables));
       small = each (AtMost steady_bounds) (at_most steady_bounds) (at-most steady_bounds) rows (and_r p r tables);
@@ -89,13 +91,12 @@ steady-ready k {table} {groups} {rows} {arguments} t a l h =
 abbrev pub varying_tables : ℕ → List (List ℤ) → Bool
 varying_tables k rows = all_below (λ i. varying_row k (get_or rows i [])) (length rows) && leb (weights (varying_terms rows)) heaviest
 
-pub varying-ready : (k : ℕ) {table : List ℕ} {rows : List (List ℤ)} {arguments : List ℤ} {q : ℤ} → table ≡ entries → AllReduced arguments
-    → length arguments ≡ k → nat_abs q ≤ most_millionths → T (varying_tables k rows) → VaryingReady table rows arguments q
-varying-ready k {table} {rows} {arguments} {q} t a l m h =
+pub varying-ready : (k : ℕ) {rows : List (List ℤ)} {arguments : List ℤ} {q : ℤ} → AllReduced arguments
+    → length arguments ≡ k → nat_abs q ≤ most_millionths → T (varying_tables k rows) → VaryingReady rows arguments q
+varying-ready k {rows} {arguments} {q} a l m h =
     let r = all_below (λ i. varying_row k (get_or rows i [])) (length rows) in
     let w = leb (weights (varying_terms rows)) heaviest in
     record {
-      sines = t;
       angles = a;
       moment = m;
       each = rw l (each (VaryingRow k) (varying_row k) (is-varying-row k) rows (and_l r w h));
@@ -103,8 +104,8 @@ varying-ready k {table} {rows} {arguments} {q} t a l m h =
     }
 
 -- both kinds of a series
-pub sum-ready : (k : ℕ) {table : List ℕ} {varying : List (List ℤ)} {groups : List (List ℕ)} {rows : List (List ℤ)} {arguments : List ℤ} {q : ℤ}
-    → table ≡ entries → AllReduced arguments → length arguments ≡ k → nat_abs q ≤ most_millionths → T (varying_tables k varying) → T (steady_tables k groups rows)
+pub sum-ready : (k : ℕ) {varying : List (List ℤ)} {groups : List (List ℕ)} {rows : List (List ℤ)} {arguments : List ℤ} {q : ℤ}
+    → AllReduced arguments → length arguments ≡ k → nat_abs q ≤ most_millionths → T (varying_tables k varying) → T (steady_tables k groups rows)
     → T (leb (weights (terms varying groups rows)) heaviest)
-    → VaryingReady table varying arguments q × SteadyReady table groups rows arguments × (weights (terms varying groups rows) ≤ heaviest)
-sum-ready k t a l m v s w = (varying-ready k t a l m v, steady-ready k t a l s, leb→le _ _ w)
+    → VaryingReady varying arguments q × SteadyReady groups rows arguments × (weights (terms varying groups rows) ≤ heaviest)
+sum-ready k a l m v s w = (varying-ready k a l m v, steady-ready k a l s, leb→le _ _ w)

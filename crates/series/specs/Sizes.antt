@@ -1,10 +1,9 @@
 -- How large the numbers of rows may be, so that no step of a sum leaves 64 bits and no index lies outside the arguments: all printed terms are
 -- smaller.
-use Rattle.std.specs.Prelude.{◌≡◌, List, [], ◌∷◌, map, ℕ, ◌+◌, ◌^◌, ◌≤◌, ◌<◌, ℤ, pos, nat_abs, length, get_or, ◌≤ℤ◌}
+use Rattle.std.specs.Prelude.{List, [], ◌∷◌, map, ℕ, ◌+◌, ◌^◌, ◌≤◌, ◌<◌, ℤ, pos, nat_abs, length, get_or, ◌≤ℤ◌}
 use Rattle.exact.specs.Nth.{nth}
 use Rattle.exact.specs.Sizes.{AllReduced}
 use Rattle.secular.specs.Sizes.{most_millionths}
-use Rattle.sine_table.specs.Table.{entries}
 use Rattle.series.specs.Sum.{weights}
 use Rattle.series.specs.Rows.{index, row_count, steady_term, steady_terms, varying_terms}
 
@@ -35,8 +34,7 @@ abbrev pub Indexed : ℕ → List ℕ → Type 0
 Indexed k group = (i : ℕ) → i < 3 → index group i < k
 
 -- one group
-pub record GroupReady (table : List ℕ) (i j k : ℕ) (rows : List (List ℤ)) (arguments : List ℤ) : Type 0 where
-  pub sines : table ≡ entries
+pub record GroupReady (i j k : ℕ) (rows : List (List ℤ)) (arguments : List ℤ) : Type 0 where
   pub angles : AllReduced arguments
   pub first : i < length arguments
   pub second : j < length arguments
@@ -49,8 +47,7 @@ unfoldable pub counts : List (List ℕ) → ℕ
 counts [] = 0
 counts (g ∷ gs) = row_count g + counts gs
 
-pub record SteadyReady (table : List ℕ) (groups : List (List ℕ)) (rows : List (List ℤ)) (arguments : List ℤ) : Type 0 where
-  pub sines : table ≡ entries
+pub record SteadyReady (groups : List (List ℕ)) (rows : List (List ℤ)) (arguments : List ℤ) : Type 0 where
   pub angles : AllReduced arguments
   pub indexed : Each (Indexed (length arguments)) groups
   pub enough : counts groups ≤ length rows
@@ -65,8 +62,7 @@ pub record VaryingRow (k : ℕ) (row : List ℤ) : Type 0 where
   pub natural : pos 0 ≤ℤ nth row 5
   pub indexed : nat_abs (nth row 5) < k
 
-pub record VaryingReady (table : List ℕ) (rows : List (List ℤ)) (arguments : List ℤ) (q : ℤ) : Type 0 where
-  pub sines : table ≡ entries
+pub record VaryingReady (rows : List (List ℤ)) (arguments : List ℤ) (q : ℤ) : Type 0 where
   pub angles : AllReduced arguments
   pub moment : nat_abs q ≤ most_millionths
   pub each : Each (VaryingRow (length arguments)) rows

@@ -1,4 +1,4 @@
-// Series: sums of amplitudes times sines, for any list of terms. Document 01, "The Sun".
+// Series: sums of amplitudes times sines, for any list of terms.
 //
 // A term whose amplitude is steady is a row of five numbers: amplitude and phase in units, and the multiples of three arguments. Rows
 // that share their arguments are a group, itself a row of four: the indices of the arguments, and how many rows it has; the rows of all
@@ -12,7 +12,7 @@ ghost use Rattle.exact.specs.Reduction.{turn, reduced};
 ghost use Rattle.exact.specs.Nth.{nth};
 ghost use Rattle.exact.specs.Sizes.{AllReduced};
 ghost use Rattle.secular.specs.Sizes.{most_millionths};
-ghost use Rattle.sine_table.specs.Table.{R, entries};
+ghost use Rattle.sine_table.specs.Table.{R};
 ghost use Rattle.sine.specs.Sine.{Sin};
 ghost use Rattle.series.specs.Term.{value};
 ghost use Rattle.series.specs.Sum.{total, table_sum, weights};
@@ -20,106 +20,96 @@ ghost use Rattle.series.specs.Rows.{steady_angle, steady_term, steady_terms, var
 ghost use Rattle.series.specs.Sizes.{heaviest, AtMost, steady_bounds, GroupReady, SteadyReady, VaryingRow, VaryingReady};
 
 use secular::Polynomial;
-use sine_table::SineTable;
 
 // An amplitude times the sine of an angle that need not be reduced.
-fn product(t: &SineTable, amplitude: i64, angle: i64) -> i64
-    requires { (t.now ≡ entries) × (nat_abs amplitude ≤ 2 ^ 29) × (nat_abs angle ≤ 2 ^ 61) }
+fn product(amplitude: i64, angle: i64) -> i64
+    requires { (nat_abs amplitude ≤ 2 ^ 29) × (nat_abs angle ≤ 2 ^ 61) }
     ensures { result ≡ amplitude *ℤ Sin (reduced angle) }
 {
-    amplitude * sine::sin(t, exact::reduced_bounded(angle))
+    amplitude * sine::sin(exact::reduced_bounded(angle))
 }
 
 // The product of a row whose arguments are a, b, c.
-fn steady_product(t: &SineTable, row: [i64; 5], a: i64, b: i64, c: i64) -> i64
-    requires { (t.now ≡ entries) × AtMost steady_bounds row × (nat_abs a < turn) × (nat_abs b < turn) × (nat_abs c < turn) }
+fn steady_product(row: [i64; 5], a: i64, b: i64, c: i64) -> i64
+    requires { AtMost steady_bounds row × (nat_abs a < turn) × (nat_abs b < turn) × (nat_abs c < turn) }
     ensures { result ≡ nth row 0 *ℤ Sin (reduced (steady_angle row a b c)) }
 {
-    product(t, row[0], row[1] + row[2] * a + row[3] * b + row[4] * c)
+    let [amplitude, phase, x, y, z] = row;
+    product(amplitude, phase + x * a + y * b + z * c)
 }
 
 // The sum of the products of one group, whose arguments have the indices i, j, k.
-fn group_sum(
-    t: &SineTable,
-    i: usize,
-    j: usize,
-    k: usize,
-    rows: &[[i64; 5]],
-    arguments: &[i64],
-) -> i64
-    requires { GroupReady t.now i j k rows.now arguments.now }
+fn group_sum(i: usize, j: usize, k: usize, rows: &[[i64; 5]], arguments: &[i64]) -> i64
+    requires { GroupReady i j k rows.now arguments.now }
     ensures { (q : ℤ) → result ≡ total Sin arguments.now q (map (steady_term i j k) rows.now) }
 {
     let a = arguments[i];
     let b = arguments[j];
     let c = arguments[k];
     let mut sum: i64 = 0;
-    for n in 0..rows.len() {
-        sum += steady_product(t, rows[n], a, b, c);
+    for row in rows {
+        sum += steady_product(*row, a, b, c);
     }
     sum
 }
 
 // The exact sum of the terms whose amplitudes are steady, the same at every q.
-pub fn steady_sum(t: &SineTable, groups: &[[usize; 4]], rows: &[[i64; 5]], arguments: &[i64]) -> i64
-    requires { SteadyReady t.now groups.now rows.now arguments.now }
+pub fn steady_sum(groups: &[[usize; 4]], rows: &[[i64; 5]], arguments: &[i64]) -> i64
+    requires { SteadyReady groups.now rows.now arguments.now }
     ensures { ((q : ℤ) → result ≡ total Sin arguments.now q (steady_terms groups.now rows.now)) × (nat_abs result ≤ R * weights (steady_terms groups.now rows.now)) }
 {
     let mut sum: i64 = 0;
-    let mut from: usize = 0;
-    for i in 0..groups.len() {
-        let group = groups[i];
-        let to = from + group[3];
-        sum += group_sum(t, group[0], group[1], group[2], &rows[from..to], arguments);
-        from = to;
+    let mut rest = rows;
+    for &[i, j, k, count] in groups {
+        let (own, others) = rest.split_at(count);
+        sum += group_sum(i, j, k, own, arguments);
+        rest = others;
     }
     sum
 }
 
 // The product of a row whose amplitude varies.
-fn varying_product(t: &SineTable, row: [i64; 6], arguments: &[i64], q: i64) -> i64
-    requires { (t.now ≡ entries) × AllReduced arguments.now × (nat_abs q ≤ most_millionths) × VaryingRow (length arguments.now) row }
+fn varying_product(row: [i64; 6], arguments: &[i64], q: i64) -> i64
+    requires { AllReduced arguments.now × (nat_abs q ≤ most_millionths) × VaryingRow (length arguments.now) row }
     ensures { result ≡ value Sin arguments.now q (varying_term row) }
 {
+    let [c0, c1, c2, phase, times, index] = row;
     let amplitude = Polynomial {
-        c0: row[0],
-        c1: row[1],
-        c2: row[2],
+        c0,
+        c1,
+        c2,
         divisor: secular::SQUARE,
     };
-    let index = row[5] as usize;
     product(
-        t,
         secular::value(amplitude, q),
-        row[3] + row[4] * arguments[index],
+        phase + times * arguments[index as usize],
     )
 }
 
 // The exact sum of the terms whose amplitudes vary, at q.
-fn varying_sum(t: &SineTable, rows: &[[i64; 6]], arguments: &[i64], q: i64) -> i64
-    requires { VaryingReady t.now rows.now arguments.now q }
-    ensures { (result ≡ total Sin arguments.now q (varying_terms rows.now)) × (nat_abs result ≤ R * weights (varying_terms rows.now)) }
+fn varying_sum(varying: &[[i64; 6]], arguments: &[i64], q: i64) -> i64
+    requires { VaryingReady varying.now arguments.now q }
+    ensures { (result ≡ total Sin arguments.now q (varying_terms varying.now)) × (nat_abs result ≤ R * weights (varying_terms varying.now)) }
 {
     let mut sum: i64 = 0;
-    for i in 0..rows.len() {
-        sum += varying_product(t, rows[i], arguments, q);
+    for row in varying {
+        sum += varying_product(*row, arguments, q);
     }
     sum
 }
 
 // The exact sum of a series at q: of the terms whose amplitudes vary, and then of the others.
 pub fn sum(
-    t: &SineTable,
     varying: &[[i64; 6]],
     groups: &[[usize; 4]],
     rows: &[[i64; 5]],
     arguments: &[i64],
     q: i64,
 ) -> i64
-    requires { VaryingReady t.now varying.now arguments.now q × SteadyReady t.now groups.now rows.now arguments.now }
+    requires { VaryingReady varying.now arguments.now q × SteadyReady groups.now rows.now arguments.now }
     ensures { (result ≡ total Sin arguments.now q (terms varying.now groups.now rows.now)) × (nat_abs result ≤ R * weights (terms varying.now groups.now rows.now)) }
 {
-    varying_sum(t, varying, arguments, q) + steady_sum(t, groups, rows, arguments)
+    varying_sum(varying, arguments, q) + steady_sum(groups, rows, arguments)
 }
 
 // A sum in units: one division by R, to nearest.
@@ -132,15 +122,14 @@ pub fn rounded(sum: i64) -> i64
 
 // The sum of a series at q, in units.
 pub fn rounded_sum(
-    t: &SineTable,
     varying: &[[i64; 6]],
     groups: &[[usize; 4]],
     rows: &[[i64; 5]],
     arguments: &[i64],
     q: i64,
 ) -> i64
-    requires { VaryingReady t.now varying.now arguments.now q × SteadyReady t.now groups.now rows.now arguments.now × (weights (terms varying.now groups.now rows.now) ≤ heaviest) }
+    requires { VaryingReady varying.now arguments.now q × SteadyReady groups.now rows.now arguments.now × (weights (terms varying.now groups.now rows.now) ≤ heaviest) }
     ensures { (result ≡ table_sum arguments.now q (terms varying.now groups.now rows.now)) × (nat_abs result ≤ weights (terms varying.now groups.now rows.now)) }
 {
-    rounded(sum(t, varying, groups, rows, arguments, q))
+    rounded(sum(varying, groups, rows, arguments, q))
 }

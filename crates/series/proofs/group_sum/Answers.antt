@@ -37,10 +37,10 @@ module _ (c : After-steady_product-sum) where
   p = c.steady_product-sum.result
 
   abbrev n : ℕ
-  n = c.loop-n.n
+  n = c.loop-row.row-index
 
   abbrev sum : ℤ
-  sum = to_z w64 c.loop-n.sum-bits
+  sum = to_z w64 c.loop-row.sum-bits
 
   inside : n < length rows
   inside = omega arith
@@ -52,10 +52,10 @@ module _ (c : After-steady_product-sum) where
       ∙ steady-value arguments Sin q c.args.i c.args.j c.args.k (get_or rows n [])
 
   round-fits : SFits w64 (sum +ℤ p)
-  round-fits = row_fits arguments (pos 0) term rows n sum p inside (c.loop-n.invariant (pos 0)) (product_is (pos 0)) (omega arith) c.requires.light
+  round-fits = row_fits arguments (pos 0) term rows n sum p inside (c.loop-row.invariant (pos 0)) (product_is (pos 0)) (omega arith) c.requires.light
 
   next : (q : ℤ) → RowsLeft arguments q term rows (suc n) (sum +ℤ p)
-  next q = row_next arguments q term rows n sum p inside (c.loop-n.invariant q) (product_is q)
+  next q = row_next arguments q term rows n sum p inside (c.loop-row.invariant q) (product_is q)
 
   p-fits : SFits w64 p
   p-fits = ok-fits p c.steady_product-sum.type_inv
@@ -63,10 +63,10 @@ module _ (c : After-steady_product-sum) where
 pub overflow_add-sum : goal.overflow_add-sum
 overflow_add-sum c = simp (to_z-of_z, p-fits c) (round-fits c)
 
-pub loop-n-preserved : goal.loop-n-preserved
-loop-n-preserved c q = simp (to_z-of_z, p-fits c, round-fits c, add-one) (next c q)
+pub loop-row-preserved : goal.loop-row-preserved
+loop-row-preserved c q = simp (to_z-of_z, p-fits c, round-fits c, add-one) (next c q)
 
 pub returns : goal.returns
 returns c q =
-    rows-sum c.args.arguments.now q (steady_term c.args.i c.args.j c.args.k) c.args.rows.now c.loop-n.n (to_z w64 c.loop-n.sum-bits) (omega arith)
-    (c.loop-n.invariant q)
+    rows-sum c.args.arguments.now q (steady_term c.args.i c.args.j c.args.k) c.args.rows.now c.loop-row.row-index (to_z w64 c.loop-row.sum-bits) (omega arith)
+    (c.loop-row.invariant q)

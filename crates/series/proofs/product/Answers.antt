@@ -25,7 +25,7 @@ module _ (c : After-sin) where
 
   product-fits : SFits w64 (start.args.amplitude *ℤ c.sin.result)
   product-fits =
-      fits_le (2 ^ 29 * R) _ (abs-*-le start.args.amplitude c.sin.result (2 ^ 29) R start.requires.1 c.sin.ensures.range) refl
+      fits_le (2 ^ 29 * R) _ (abs-*-le start.args.amplitude c.sin.result (2 ^ 29) R start.requires.0 c.sin.ensures.range) refl
 
 pub returns : goal.returns
 returns c =

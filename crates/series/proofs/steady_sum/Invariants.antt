@@ -1,13 +1,15 @@
 -- In each round the sum so far and the groups that are left give the whole, at every q.
-use Prim.Native.Nat.{◌+◌, ◌≤◌}
 use lib.IntN.{ℤ}
 use lib.ListN.{length, drop}
+use Prim.Native.Nat.{◌≤◌}
 use Rattle.series.specs.Rows.{steady_terms}
-use Rattle.series.specs.Sizes.{counts}
+use Rattle.series.specs.Sizes.{counts, Each, AtMost, steady_bounds}
 use Rattle.series.proofs.Loops.{Left}
 use Rattle.series.proofs.steady_sum.Given as goal
 
 abbrev pub invariant-loop-i : goal.invariant-loop-i
-invariant-loop-i l =
-    (l.from + counts (drop l.i l.groups) ≤ length l.rows)
-    × ((q : ℤ) → Left l.arguments q (steady_terms l.groups l.rows) (steady_terms (drop l.i l.groups) (drop l.from l.rows)) l.sum)
+invariant-loop-i l = record {
+  enough : counts (drop l.i-index l.fn.groups) ≤ length l.rest;
+  small : Each (AtMost steady_bounds) l.rest;
+  left : (q : ℤ) → Left l.arguments q (steady_terms l.fn.groups l.fn.rows) (steady_terms (drop l.i-index l.fn.groups) l.rest) l.sum;
+}

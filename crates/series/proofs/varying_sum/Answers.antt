@@ -28,16 +28,16 @@ module _ (c : After-varying_product-sum) where
   arguments = c.args.arguments.now
 
   abbrev rows : List (List ℤ)
-  rows = c.args.rows.now
+  rows = c.args.varying.now
 
   abbrev q : ℤ
   q = to_z w64 (of_z w64 c.args.q)
 
   abbrev i : ℕ
-  i = c.loop-i.i
+  i = c.loop-row.row-index
 
   abbrev sum : ℤ
-  sum = to_z w64 c.loop-i.sum-bits
+  sum = to_z w64 c.loop-row.sum-bits
 
   abbrev p : ℤ
   p = c.varying_product-sum.result
@@ -47,11 +47,11 @@ module _ (c : After-varying_product-sum) where
 
   round-fits : SFits w64 (sum +ℤ p)
   round-fits =
-      row_fits arguments q varying_term rows i sum p inside c.loop-i.invariant c.varying_product-sum.ensures
+      row_fits arguments q varying_term rows i sum p inside c.loop-row.invariant c.varying_product-sum.ensures
       (q-le c.args.q c.ranges.q c.requires.moment) c.requires.light
 
   next : RowsLeft arguments q varying_term rows (suc i) (sum +ℤ p)
-  next = row_next arguments q varying_term rows i sum p inside c.loop-i.invariant c.varying_product-sum.ensures
+  next = row_next arguments q varying_term rows i sum p inside c.loop-row.invariant c.varying_product-sum.ensures
 
   p-fits : SFits w64 p
   p-fits = ok-fits p c.varying_product-sum.type_inv
@@ -59,13 +59,13 @@ module _ (c : After-varying_product-sum) where
 pub overflow_add-sum : goal.overflow_add-sum
 overflow_add-sum c = simp (to_z-of_z, p-fits c) (round-fits c)
 
-pub loop-i-preserved : goal.loop-i-preserved
-loop-i-preserved c = let e = next c in rw (to_z-of_z (p-fits c), to_z-of_z (round-fits c), add-one) e
+pub loop-row-preserved : goal.loop-row-preserved
+loop-row-preserved c = let e = next c in rw (to_z-of_z (p-fits c), to_z-of_z (round-fits c), add-one) e
 
 pub returns : goal.returns
 returns c =
     let q = to_z w64 (of_z w64 c.args.q) in
-    let e = rows-sum c.args.arguments.now q varying_term c.args.rows.now c.loop-i.i (to_z w64 c.loop-i.sum-bits) (omega arith) c.loop-i.invariant in (
-      e ∙ ap (λ (z : ℤ). total Sin c.args.arguments.now z (varying_terms c.args.rows.now)) (to_z-of_z c.ranges.q),
-      rw e (sum-le c.args.arguments.now q (q-le c.args.q c.ranges.q c.requires.moment) (varying_terms c.args.rows.now)),
+    let e = rows-sum c.args.arguments.now q varying_term c.args.varying.now c.loop-row.row-index (to_z w64 c.loop-row.sum-bits) (omega arith) c.loop-row.invariant in (
+      e ∙ ap (λ (z : ℤ). total Sin c.args.arguments.now z (varying_terms c.args.varying.now)) (to_z-of_z c.ranges.q),
+      rw e (sum-le c.args.arguments.now q (q-le c.args.q c.ranges.q c.requires.moment) (varying_terms c.args.varying.now)),
     )

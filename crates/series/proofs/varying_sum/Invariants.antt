@@ -3,5 +3,5 @@ use Rattle.series.specs.Rows.{varying_term}
 use Rattle.series.proofs.Loops.{RowsLeft}
 use Rattle.series.proofs.varying_sum.Given as goal
 
-abbrev pub invariant-loop-i : goal.invariant-loop-i
-invariant-loop-i l = RowsLeft l.arguments l.q varying_term l.rows l.i l.sum
+abbrev pub invariant-loop-row : goal.invariant-loop-row
+invariant-loop-row l = RowsLeft l.arguments l.q varying_term l.fn.varying l.row-index l.sum
