@@ -2,18 +2,17 @@
 use mathlib.Core.Path.{◌≡◌, refl, ap}
 use mathlib.Core.Bool.{true, false}
 use mathlib.Core.List.{List}
+use Rattle.std.specs.Prelude.{Some, None}
 use Prim.Native.Nat.{ℕ}
 use lib.IntN.{ℤ}
 use lib.ListN.{length}
 use Rattle.exact.proofs.Choice.{was-true, was-false}
 use Rattle.digits.specs.Text.{text}
 use Rattle.digits.specs.Writing.{fits, write_at, buffer_with}
-use Rattle.digits.specs.declared.Written.TheVariants.{Bytes, NoRoom}
-use Rattle.card.specs.Fields.{is_held, is_read, number_in, is_field, slot_index, field_of, put, keeping}
+use Rattle.card.specs.Fields.{is_held, is_read, number_in, is_field, slot_index, field_of, put, keeping, Before}
 use Rattle.card.specs.Calls.{accepted, refused, written_out, not_written, can_be_heard, hear_card, hear, confirm, undo, read_card, read, buffer_after}
 use Rattle.card.specs.declared.Field.{Field}
 use Rattle.card.specs.declared.Field.TheVariants.{Confirmed}
-use Rattle.card.specs.declared.Latest.TheVariants.{NothingToUndo, Before}
 use Rattle.card.specs.declared.Card.{Card}
 use Rattle.card.proofs.Clash.{clash}
 
@@ -50,14 +49,14 @@ module _ (c : Card) (f : ℤ) where
       abbrev number : ℤ
       number = number_in (field_of c f)
 
-      pub read-no-room : (y : List ℕ) → NoRoom ≡ write_at buffer place number → y ≡ buffer_with buffer place number
+      pub read-no-room : (y : List ℕ) → None ≡ write_at buffer place number → y ≡ buffer_with buffer place number
           → (not_written c 11 ≡ read c f buffer place) × (y ≡ buffer_after c f buffer place)
-      read-no-room y w b = let h = (was-false (fits buffer place number) _ NoRoom NoRoom (λ p. clash (cc)) w).0 in rw (e, k, h) (refl, rw h at b)
+      read-no-room y w b = let h = (was-false (fits buffer place number) _ None None (λ p. clash (cc)) w).0 in rw (e, k, h) (refl, rw h at b)
 
-      pub read-written : (n : ℕ) (y : List ℕ) → Bytes n ≡ write_at buffer place number → y ≡ buffer_with buffer place number
+      pub read-written : (n : ℕ) (y : List ℕ) → Some n ≡ write_at buffer place number → y ≡ buffer_with buffer place number
           → (written_out n (read_card c f) ≡ read c f buffer place) × (y ≡ buffer_after c f buffer place)
       read-written n y w b =
-          let h = was-true (fits buffer place number) _ NoRoom (Bytes n) (λ p. clash (cc)) w in
+          let h = was-true (fits buffer place number) _ None (Some n) (λ p. clash (cc)) w in
           let m : n ≡ length (text number) = cc h.1 in
           rw (e, k, h.0) (ap (λ n. written_out n (read_card c f)) m, rw h.0 at b)
 
@@ -66,8 +65,8 @@ module _ (c : Card) (f : ℤ) where
     pub undo-no-field : is_field f ≡ false → refused c 18 ≡ undo c
     undo-no-field e = rw (l, e)
 
-    pub undo-accepted : is_field f ≡ true → accepted (keeping (put c (slot_index f) v) NothingToUndo) ≡ undo c
+    pub undo-accepted : is_field f ≡ true → accepted (keeping (put c (slot_index f) v) None) ≡ undo c
     undo-accepted e = rw (l, e)
 
-pub undo-nothing : (c : Card) → c.latest ≡ NothingToUndo → refused c 18 ≡ undo c
+pub undo-nothing : (c : Card) → c.latest ≡ None → refused c 18 ≡ undo c
 undo-nothing c l = rw l

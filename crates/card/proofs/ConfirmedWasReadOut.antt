@@ -7,11 +7,11 @@ use mathlib.Core.Path.{◌≡◌, refl, sym, ap, subst, ◌∙◌}
 use mathlib.Core.Bool.{Bool, true, false}
 use mathlib.Core.Logic.{◌⊎◌, inl, inr}
 use mathlib.Core.List.{List, [], ◌∷◌}
+use Rattle.std.specs.Prelude.{None}
 use lib.IntN.{ℤ}
-use Rattle.card.specs.Fields.{is_field, field_of, Full, fresh_card}
+use Rattle.card.specs.Fields.{is_field, field_of, Full, fresh_card, Before}
 use Rattle.card.specs.declared.Field.{Field}
 use Rattle.card.specs.declared.Field.TheVariants.{Empty, Confirmed}
-use Rattle.card.specs.declared.Latest.TheVariants.{NothingToUndo, Before}
 use Rattle.card.specs.declared.Card.{Card}
 use Rattle.card.proofs.FieldNumbers.{no_field}
 use Rattle.card.proofs.Clash.{clash}
@@ -106,11 +106,11 @@ confirmed-was-read-out c calls f n full e =
 
 -- ---- from a card on which there is nothing to undo
 module _ (c : Card) (calls : List Call) (f n : ℤ) where
-  from_settled : c.latest ≡ NothingToUndo → Story c f n calls ⊎ PutBackAmong c f n calls → Story c f n calls
+  from_settled : c.latest ≡ None → Story c f n calls ⊎ PutBackAmong c f n calls → Story c f n calls
   from_settled l (inl s) = s
   from_settled l (inr b) = let z = sym l ∙ b.kept in clash (cc)
 
-  pub settled-was-read-out : Full c → c.latest ≡ NothingToUndo → field_of (after_all c calls) f ≡ Confirmed n → Story c f n calls
+  pub settled-was-read-out : Full c → c.latest ≡ None → field_of (after_all c calls) f ≡ Confirmed n → Story c f n calls
   settled-was-read-out full l e = from_settled l (confirmed-was-read-out c calls f n full e)
 
   -- of a field that was empty there
@@ -120,7 +120,7 @@ module _ (c : Card) (calls : List Call) (f n : ℤ) where
   from_empty e (stood_heard k q) = clash (cc)
   from_empty e (was_heard r) = r
 
-  pub empty-was-read-out : Full c → c.latest ≡ NothingToUndo → field_of c f ≡ Empty → field_of (after_all c calls) f ≡ Confirmed n → HeardAmong c f n calls
+  pub empty-was-read-out : Full c → c.latest ≡ None → field_of c f ≡ Empty → field_of (after_all c calls) f ≡ Confirmed n → HeardAmong c f n calls
   empty-was-read-out full l e k = from_empty e (settled-was-read-out full l k)
 
 -- ---- from a fresh card, on which every field is empty

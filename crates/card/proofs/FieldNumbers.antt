@@ -1,7 +1,7 @@
 -- Field numbers, and where their fields stand on the card.
 use mathlib.Core.Path.{◌≡◌, sym, ap, subst, ◌∙◌}
 use mathlib.Core.Bool.{Bool, true, false}
-use Prim.Native.Nat.{ℕ, suc, ◌<◌}
+use Prim.Native.Nat.{suc, ◌<◌}
 use native.Mathlib.Omega.{arith}
 use lib.Dec.{T}
 use lib.IntN.{ℤ, pos, nat_abs}
@@ -11,7 +11,6 @@ use mir.Facts.{to_z-of_z}
 use mir.Val.{Fits, SFits, to_z, of_z}
 use Rattle.exact.proofs.Machine.{between-nat, abs_word}
 use Rattle.card.specs.Fields.{field_count, is_field, slot_index, field_at, field_of}
-use Rattle.card.specs.declared.Field.{Field}
 use Rattle.card.specs.declared.Field.TheVariants.{Empty}
 use Rattle.card.specs.declared.Card.{Card}
 
@@ -35,13 +34,6 @@ pub no_field : (f : ℤ) → is_field f ≡ false → (c : Card) → Empty ≡ f
 unfolding field_of
 no_field f e c = rw e
 
--- what the calls of `is_field`, `slot_index` and `field_at` gave, which take a field number by its bits
-module _ {f : ℤ} (fits : SFits w64 f) where
-  pub tested : {b : Bool} → b ≡ is_field (to_z w64 (of_z w64 f)) → is_field f ≡ b
-  tested e = sym (e ∙ ap is_field (to_z-of_z fits))
-
-  pub index-is : {i : ℕ} → i ≡ slot_index (to_z w64 (of_z w64 f)) → i ≡ slot_index f
-  index-is e = e ∙ ap slot_index (to_z-of_z fits)
-
-  pub state-is : {i : ℕ} {v : Field} (c : Card) → is_field f ≡ true → i ≡ slot_index (to_z w64 (of_z w64 f)) → v ≡ field_at c i → v ≡ field_of c f
-  state-is c e i v = v ∙ ap (field_at c) (index-is i) ∙ field_found f e c
+-- what a call of `is_field` gave, which takes a field number by its bits
+pub tested : {f : ℤ} → SFits w64 f → {b : Bool} → b ≡ is_field (to_z w64 (of_z w64 f)) → is_field f ≡ b
+tested fits e = sym (e ∙ ap is_field (to_z-of_z fits))

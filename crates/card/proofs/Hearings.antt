@@ -1,14 +1,16 @@
--- Whether a hearing is accepted hangs on no card: where it is heard it is, and else it is refused and leaves the card.
+-- Whether a hearing is accepted hangs on no card: where it is heard it is, and else it is refused and leaves the card. And what is kept of a hearing.
 use mathlib.Core.Path.{◌≡◌, refl, sym, ap, ◌∙◌}
 use mathlib.Core.Bool.{Bool, true, false}
 use mathlib.Core.Logic.{◌≢◌}
 use native.Mathlib.Omega.{arith}
 use lib.IntN.{ℤ}
+use Rattle.std.proofs.lemmas.Option.{same_Some}
 use Rattle.exact.proofs.Machine.{and-true}
-use Rattle.card.specs.Fields.{is_field}
+use Rattle.card.specs.Fields.{is_field, Before}
 use Rattle.card.specs.Calls as Calls
 use Rattle.card.specs.Calls.{accepted, can_be_heard, hear_card}
 use Rattle.card.specs.History.{hear, after, refusal, is_heard}
+use Rattle.card.specs.declared.Field.{Field}
 use Rattle.card.specs.declared.Card.{Card}
 use Rattle.card.proofs.CallAnswers.{hear-no-field, hear-too-large, hear-accepted}
 use Rattle.card.proofs.Clash.{clash}
@@ -39,3 +41,7 @@ module _ (c : Card) (f n : ℤ) where
 
   pub accepted-heard : refusal c (hear f n) ≡ 0 → is_heard f n ≡ true
   accepted-heard = accepted-by (is_heard f n) refl
+
+-- what is kept of a hearing says the field and what it was
+pub same-kept : {f g : ℤ} {v w : Field} → Before f v ≡ Before g w → (f ≡ g) × (v ≡ w)
+same-kept e = let k = same_Some _ _ e in (ap (λ l. l.field) k, ap (λ l. l.before) k)

@@ -3,17 +3,17 @@
 use mathlib.Core.Path.{◌≡◌, refl, sym, ap, subst, ◌∙◌}
 use mathlib.Core.Bool.{Bool, true, false}
 use mathlib.Core.List.{List, [], ◌∷◌}
+use Rattle.std.specs.Prelude.{Option}
 use native.Mathlib.Omega.{arith}
 use lib.Dec.{leb→le}
 use lib.IntN.{ℤ, pos, negsuc, neg_ℤ, ℤ_discrete}
 use Rattle.refusal.proofs.Decisions.{holds-decided}
 use Rattle.exact.proofs.Machine.{between-low, between-high}
-use Rattle.card.specs.Fields.{is_field, field_of, Full, fresh_card, DUT1, fresh_with_dut1_assumed_zero}
+use Rattle.card.specs.Fields.{is_field, field_of, Full, fresh_card, DUT1, fresh_with_dut1_assumed_zero, Before}
 use Rattle.card.specs.Calls.{CardValues, ReadValues, refused, not_written, largest_heard, can_be_heard, read_tests, confirm_tests, undo_tests}
 use Rattle.card.specs.declared.Field.{Field}
 use Rattle.card.specs.declared.Field.TheVariants.{Heard}
 use Rattle.card.specs.declared.Latest.{Latest}
-use Rattle.card.specs.declared.Latest.TheVariants.{Before}
 use Rattle.card.specs.declared.Card.{Card}
 use Rattle.card.proofs.FieldNumbers.{no_field}
 use Rattle.card.proofs.Hearings.{heard-field, hear-heard, hear-unheard}
@@ -31,7 +31,7 @@ module _ (c : Card) (held : HeldSmall c) where
   kept_small : (f : ℤ) (v : Field) → c.latest ≡ Before f v → Small v
   kept_small f v e = (subst KeptSmall e held.1).1
 
-  after_one : (f : ℤ) {x : Call} {v : Field} {l : Latest} → Effect c f x v l → Small v
+  after_one : (f : ℤ) {x : Call} {v : Field} {l : Option Latest} → Effect c f x v l → Small v
   after_one f (heard n e r t w k) = rw w (small n (heard-field f n t).1)
   after_one f (read_out n buffer place e r b k w p) = rw w (rw k at (held.0 f))
   after_one f (confirmed n e r k w p) = rw w (rw k at (held.0 f))

@@ -4,6 +4,7 @@ use mathlib.Core.Path.{◌≡◌, refl, sym, ap, subst, ◌∙◌}
 use mathlib.Core.Bool.{Bool, true, false}
 use mathlib.Core.Logic.{◌≢◌}
 use mathlib.Core.List.{List, ◌∷◌}
+use Rattle.std.specs.Prelude.{Option, Some, None}
 use Prim.Native.Nat.{ℕ, suc}
 use native.Mathlib.Omega.{arith}
 use lib.IntN.{ℤ, pos, ℤ_discrete}
@@ -11,36 +12,34 @@ use lib.ListN.{length, length-set}
 use lib.Seq.{get_or-set_same, get_or-set_other}
 use Rattle.digits.specs.Text.{text}
 use Rattle.digits.specs.Writing.{fits, over}
-use Rattle.card.specs.Fields.{is_held, is_read, number_in, is_field, slot_index, slot, field_of, put, keeping, Full}
+use Rattle.card.specs.Fields.{is_held, is_read, number_in, is_field, slot_index, field_of, put, keeping, Full, Before}
 use Rattle.card.specs.Calls.{read_state, buffer_after}
 use Rattle.card.specs.declared.Field.{Field}
 use Rattle.card.specs.declared.Field.TheVariants.{Empty, Heard, Read, Confirmed}
 use Rattle.card.specs.declared.Latest.{Latest}
-use Rattle.card.specs.declared.Latest.TheVariants.{NothingToUndo, Before}
 use Rattle.card.specs.declared.Card.{Card}
 use Rattle.card.proofs.FieldNumbers.{field-number, index_below, field_found, no_field}
 use Rattle.card.proofs.CallAnswers.{confirm-no-field, confirm-not-read, confirm-accepted, read-no-field, read-empty, read-no-room, read-written, undo-nothing, undo-no-field, undo-accepted}
-use Rattle.card.proofs.Hearings.{heard-field, hear-heard, hear-unheard}
+use Rattle.card.proofs.Hearings.{heard-field, hear-heard, hear-unheard, same-kept}
 use Rattle.card.proofs.States.{is-read}
 use Rattle.card.proofs.Clash.{clash}
 use Rattle.card.specs.History.{Call, hear, read, confirm, undo, after, refusal, is_heard, settles, is_undone}
 
 -- a field is put at one index and no other, whatever is kept
-pub put_same : (c : Card) (f : ℤ) (v : Field) (l : Latest) → Full c → is_field f ≡ true → field_of (keeping (put c (slot_index f) v) l) f ≡ v
+pub put_same : (c : Card) (f : ℤ) (v : Field) (l : Option Latest) → Full c → is_field f ≡ true → field_of (keeping (put c (slot_index f) v) l) f ≡ v
 put_same c f v l full e =
     let h = index_below f e in
-    sym (field_found f e (keeping (put c (slot_index f) v) l))
-    ∙ ap (λ s. s.field) (get_or-set_same c.slots (slot_index f) (slot v) (slot Empty) (omega arith))
+    sym (field_found f e (keeping (put c (slot_index f) v) l)) ∙ get_or-set_same c.fields (slot_index f) v Empty (omega arith)
 
-put-other-at : (c : Card) (f g : ℤ) (v : Field) (l : Latest) (b : Bool) → is_field f ≡ b → is_field g ≡ true → f ≢ g
+put-other-at : (c : Card) (f g : ℤ) (v : Field) (l : Option Latest) (b : Bool) → is_field f ≡ b → is_field g ≡ true → f ≢ g
     → field_of (keeping (put c (slot_index g) v) l) f ≡ field_of c f
 put-other-at c f g v l false e k n = sym (no_field f e (keeping (put c (slot_index g) v) l)) ∙ no_field f e c
 put-other-at c f g v l true e k n =
-    let apart = get_or-set_other c.slots (slot_index g) (slot_index f) (slot v) (slot Empty)
+    let apart = get_or-set_other c.fields (slot_index g) (slot_index f) v Empty
     (λ q. n (field-number f e ∙ ap (λ i. pos (suc i)) q ∙ sym (field-number g k))) in
-    sym (field_found f e (keeping (put c (slot_index g) v) l)) ∙ ap (λ s. s.field) apart ∙ field_found f e c
+    sym (field_found f e (keeping (put c (slot_index g) v) l)) ∙ apart ∙ field_found f e c
 
-pub put_other : (c : Card) (f g : ℤ) (v : Field) (l : Latest) → is_field g ≡ true → f ≢ g → field_of (keeping (put c (slot_index g) v) l) f ≡ field_of c f
+pub put_other : (c : Card) (f g : ℤ) (v : Field) (l : Option Latest) → is_field g ≡ true → f ≢ g → field_of (keeping (put c (slot_index g) v) l) f ≡ field_of c f
 put_other c f g v l = put-other-at c f g v l (is_field f) refl
 
 -- ---- the effects
@@ -50,27 +49,27 @@ NotHeard f x = (n : ℤ) → x ≡ hear f n → is_heard f n ≡ true → ⊥
 
 -- what call x, which leaves f, makes of a hearing for f that is kept, where l is kept afterwards: it leaves that too, or no hearing for f is kept any
 -- more, and the one that was is not undone
-pub data Passes (c : Card) (f : ℤ) (x : Call) (l : Latest) : Type 0 where
+pub data Passes (c : Card) (f : ℤ) (x : Call) (l : Option Latest) : Type 0 where
   stays : settles x ≡ false → l ≡ c.latest → Passes c f x l
   gone : ((v : Field) → l ≢ Before f v) → ((v : Field) (calls : List Call) → c.latest ≡ Before f v → is_undone (x ∷ calls) ≡ false) → Passes c f x l
 
 -- what call x makes of field f, which is v afterwards, where l is kept afterwards
-pub data Effect (c : Card) (f : ℤ) (x : Call) (v : Field) (l : Latest) : Type 0 where
+pub data Effect (c : Card) (f : ℤ) (x : Call) (v : Field) (l : Option Latest) : Type 0 where
   heard : (n : ℤ) → x ≡ hear f n → refusal c x ≡ 0 → is_heard f n ≡ true → v ≡ Heard n → l ≡ Before f (field_of c f) → Effect c f x v l
   read_out : (n : ℤ) (buffer : List ℕ) (place : ℕ) → x ≡ read f buffer place → refusal c x ≡ 0
       → buffer_after c f buffer place ≡ over buffer place (text n) → field_of c f ≡ Heard n → v ≡ Read n → Passes c f x l → Effect c f x v l
   confirmed : (n : ℤ) → x ≡ confirm f → refusal c x ≡ 0 → field_of c f ≡ Read n → v ≡ Confirmed n → Passes c f x l → Effect c f x v l
-  undone : x ≡ undo → c.latest ≡ Before f v → l ≡ NothingToUndo → Effect c f x v l
+  undone : x ≡ undo → c.latest ≡ Before f v → l ≡ None → Effect c f x v l
   kept : NotHeard f x → v ≡ field_of c f → Passes c f x l → Effect c f x v l
 
 -- what a call does to every field but one
-abbrev pub Leaves : Card → ℤ → Call → Latest → Type 0
+abbrev pub Leaves : Card → ℤ → Call → Option Latest → Type 0
 Leaves c f x l = NotHeard f x × Passes c f x l
 
 -- a call leaves the card, or it puts the next state into one field and leaves the others
 pub data Step (c : Card) (x : Call) : Type 0 where
   refused : after c x ≡ c → ((f : ℤ) → is_field f ≡ true → Leaves c f x c.latest) → Step c x
-  puts : (g : ℤ) (v : Field) (l : Latest) → is_field g ≡ true → refusal c x ≡ 0 → after c x ≡ keeping (put c (slot_index g) v) l → Effect c g x v l
+  puts : (g : ℤ) (v : Field) (l : Option Latest) → is_field g ≡ true → refusal c x ≡ 0 → after c x ≡ keeping (put c (slot_index g) v) l → Effect c g x v l
       → ((f : ℤ) → f ≢ g → Leaves c f x l) → Step c x
 
 -- ---- hearing
@@ -78,7 +77,7 @@ module _ (c : Card) (g n : ℤ) where
   -- after a hearing for g none for another field is kept, nor can an earlier one be undone
   hear-leaves : (v : Field) → is_heard g n ≡ true → (f : ℤ) → f ≢ g → Leaves c f (hear g n) (Before g v)
   unfolding is_undone
-  hear-leaves v h f r = (λ m q k. r (cc), gone (λ w q. r (cc)) (λ w calls q. rw h))
+  hear-leaves v h f r = (λ m q k. r (cc), gone (λ w q. r (sym (same-kept q).0)) (λ w calls q. rw h))
 
   hear-step : (b : Bool) → is_heard g n ≡ b → Step c (hear g n)
   hear-step false h = refused (hear-unheard c g n h).0 (λ f i. (λ m q k. clash (cc), stays h refl))
@@ -132,22 +131,22 @@ module _ (c : Card) (g : ℤ) where
 -- ---- undoing
 module _ (c : Card) where
   -- where no hearing for f is kept, an undo leaves f, and so does it keep none
-  undo-leaves : (f : ℤ) (l : Latest) → ((v : Field) → l ≢ Before f v) → ((v : Field) → c.latest ≢ Before f v) → Leaves c f undo l
+  undo-leaves : (f : ℤ) (l : Option Latest) → ((v : Field) → l ≢ Before f v) → ((v : Field) → c.latest ≢ Before f v) → Leaves c f undo l
   undo-leaves f l h k = (λ n e t. clash (cc), gone h (λ v calls e. absurd (k v e)))
 
   undo-refused : ((f : ℤ) → is_field f ≡ true → (v : Field) → c.latest ≢ Before f v) → after c undo ≡ c → Step c undo
   undo-refused h e = refused e (λ f i. undo-leaves f c.latest (h f i) (h f i))
 
   undo-of : (g : ℤ) (v : Field) (b : Bool) → c.latest ≡ Before g v → is_field g ≡ b → Step c undo
-  undo-of g v false l e = undo-refused (λ f i w q. clash (cc)) (sym (ap (λ a. a.card) (undo-no-field c g v l e)))
+  undo-of g v false l e = undo-refused (λ f i w q. let k = (same-kept (sym l ∙ q)).0 in clash (cc)) (sym (ap (λ a. a.card) (undo-no-field c g v l e)))
   undo-of g v true l e =
       let h = undo-accepted c g v l e in
-      puts g v NothingToUndo e (sym (ap (λ a. a.refusal) h)) (sym (ap (λ a. a.card) h)) (undone refl l refl)
-      (λ f n. undo-leaves f NothingToUndo (λ w q. clash (cc)) (λ w q. n (cc)))
+      puts g v None e (sym (ap (λ a. a.refusal) h)) (sym (ap (λ a. a.card) h)) (undone refl l refl)
+      (λ f n. undo-leaves f None (λ w q. clash (cc)) (λ w q. n (sym (same-kept (sym l ∙ q)).0)))
 
-  undo-step : (l : Latest) → c.latest ≡ l → Step c undo
-  undo-step NothingToUndo l = undo-refused (λ f i v q. clash (cc)) (sym (ap (λ a. a.card) (undo-nothing c l)))
-  undo-step (Before g v) l = undo-of g v (is_field g) l refl
+  undo-step : (l : Option Latest) → c.latest ≡ l → Step c undo
+  undo-step None l = undo-refused (λ f i v q. clash (cc)) (sym (ap (λ a. a.card) (undo-nothing c l)))
+  undo-step (Some k) l = undo-of k.field k.before (is_field k.field) l refl
 
 -- ---- any call
 pub step : (c : Card) (x : Call) → Step c x
@@ -159,14 +158,14 @@ step c undo = undo-step c c.latest refl
 
 -- a card stays full
 step-full : (c : Card) {x : Call} → Full c → Step c x → Full (after c x)
-step-full c full (refused e h) = ap (λ d. length d.slots) e ∙ full
-step-full c full (puts g v l i r e w h) = ap (λ d. length d.slots) e ∙ length-set c.slots (slot_index g) (slot v) ∙ full
+step-full c full (refused e h) = ap (λ d. length d.fields) e ∙ full
+step-full c full (puts g v l i r e w h) = ap (λ d. length d.fields) e ∙ length-set c.fields (slot_index g) v ∙ full
 
 pub after-full : (c : Card) (x : Call) → Full c → Full (after c x)
 after-full c x full = step-full c full (step c x)
 
 -- and each field sees one of the five effects
-put-effect : (c : Card) (f g : ℤ) {x : Call} (v : Field) (l : Latest) → Full c → is_field g ≡ true → Effect c g x v l → ((f : ℤ) → f ≢ g → Leaves c f x l)
+put-effect : (c : Card) (f g : ℤ) {x : Call} (v : Field) (l : Option Latest) → Full c → is_field g ≡ true → Effect c g x v l → ((f : ℤ) → f ≢ g → Leaves c f x l)
     → Dec (f ≡ g) → Effect c f x (field_of (keeping (put c (slot_index g) v) l) f) l
 put-effect c f g {x} v l full i w h (yes q) =
     subst (λ k. Effect c k x (field_of (keeping (put c (slot_index g) v) l) k) l) (sym q)

@@ -19,12 +19,6 @@ is-confirmed (Read z) e = clash (cc)
 is-confirmed (Confirmed z) e = refl
 
 -- a state that is none of one case
-pub not-read : (g : Field) → ((z : ℤ) → g ≡ Read z → ⊥) → is_read g ≡ false
-not-read Empty h = refl
-not-read (Heard z) h = refl
-not-read (Read z) h = absurd (h z refl)
-not-read (Confirmed z) h = refl
-
 pub not-confirmed : (g : Field) → ((z : ℤ) → g ≡ Confirmed z → ⊥) → is_confirmed g ≡ false
 not-confirmed Empty h = refl
 not-confirmed (Heard z) h = refl

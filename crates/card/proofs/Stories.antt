@@ -7,14 +7,14 @@ use Prim.Native.Nat.{ℕ}
 use lib.IntN.{ℤ}
 use Rattle.digits.specs.Text.{text}
 use Rattle.digits.specs.Writing.{over}
-use Rattle.card.specs.Fields.{field_of}
+use Rattle.card.specs.Fields.{field_of, Before}
 use Rattle.card.specs.Calls.{buffer_after}
 use Rattle.card.specs.declared.Field.{Field}
 use Rattle.card.specs.declared.Field.TheVariants.{Heard, Read, Confirmed}
-use Rattle.card.specs.declared.Latest.TheVariants.{Before}
 use Rattle.card.specs.declared.Card.{Card}
 use Rattle.card.proofs.Clash.{clash}
 use Rattle.card.specs.History.{Call, hear, read, confirm, undo, after, refusal, after_all, is_undone, NothingStands, AcceptedAmong, ConfirmedAmong, ReadOutAmong, HeardAmong, Story, stood_confirmed, stood_read, stood_heard, was_heard, PutBackAmong}
+use Rattle.card.proofs.Hearings.{same-kept}
 use Rattle.card.proofs.Histories.{after-append, nothing-append, no-calls}
 
 -- ---- calls in front of which no hearing for f stands: what came after them still did
@@ -121,4 +121,4 @@ module _ {c : Card} {f n : ℤ} {calls : List Call} (b : PutBackAmong c f n call
   card-there = after-append c b.between (undo ∷ [])
 
   pub put-back : {v : Field} → c.latest ≡ Before f v → field_of (after (after_all c b.between) undo) f ≡ v
-  put-back {v} l = let same : b.before ≡ v = (let q = sym b.kept ∙ l in cc) in b.back ∙ same
+  put-back {v} l = b.back ∙ (same-kept (sym b.kept ∙ l)).1

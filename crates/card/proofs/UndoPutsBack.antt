@@ -4,10 +4,10 @@
 use mathlib.Core.Path.{◌≡◌, sym, ap, ◌∙◌}
 use mathlib.Core.Bool.{true}
 use mathlib.Core.List.{List, ◌∷◌}
+use Rattle.std.specs.Prelude.{None}
 use lib.IntN.{ℤ}
-use Rattle.card.specs.Fields.{is_field, field_of, Full}
+use Rattle.card.specs.Fields.{is_field, field_of, Full, Before}
 use Rattle.card.specs.declared.Field.TheVariants.{Heard}
-use Rattle.card.specs.declared.Latest.TheVariants.{NothingToUndo, Before}
 use Rattle.card.specs.declared.Card.{Card}
 use Rattle.card.proofs.CallAnswers.{undo-nothing, undo-accepted}
 use Rattle.card.proofs.Hearings.{heard-field, hear-heard, accepted-heard}
@@ -30,7 +30,7 @@ module _ (c : Card) (f n : ℤ) (full : Full c) (r : refusal c (hear f n) ≡ 0)
 
 -- ---- the undo
 -- where nothing is kept, calls that leave it so leave nothing to undo
-pub nothing-to-undo : (c : Card) (calls : List Call) → c.latest ≡ NothingToUndo → leaves_undo calls ≡ true → refusal (after_all c calls) undo ≡ 18
+pub nothing-to-undo : (c : Card) (calls : List Call) → c.latest ≡ None → leaves_undo calls ≡ true → refusal (after_all c calls) undo ≡ 18
 nothing-to-undo c calls l h = sym (ap (λ a. a.refusal) (undo-nothing (after_all c calls) (leaves-latest c calls h ∙ l)))
 
 pub undo-puts-back : (c : Card) (f n : ℤ) (between : List Call) → Full c → refusal c (hear f n) ≡ 0 → leaves_undo between ≡ true
@@ -45,7 +45,7 @@ undo-puts-back c f n between full r h =
     record {
       accepts = sym (ap (λ a. a.refusal) u);
       back = ap (λ k. field_of k f) card
-          ∙ put_same d f v NothingToUndo (stays-full (after c (hear f n)) between (after-full c (hear f n) full)) i;
-      others = λ g n. ap (λ k. field_of k g) card ∙ put_other d g f v NothingToUndo i n;
+          ∙ put_same d f v None (stays-full (after c (hear f n)) between (after-full c (hear f n) full)) i;
+      others = λ g n. ap (λ k. field_of k g) card ∙ put_other d g f v None i n;
       spent = λ calls. nothing-to-undo (after d undo) calls (ap (λ k. k.latest) card);
     }

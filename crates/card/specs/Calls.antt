@@ -1,22 +1,18 @@
 -- Document 01, "The card" and "Refusal numbers"; document 02, request 6 (RULES.md, "The card" and "Refusals"): what hearing, reading, confirming and
 -- undoing answer, for every card and all arguments. That is the refusal number, 0 where the call is accepted, the card and the buffer afterwards. A
 -- refusal changes neither.
-use Rattle.std.specs.Prelude.{Bool, false, List, [], ◌∷◌, ◌++◌, ℕ, ℤ, pos, neg_ℤ, length}
+use Rattle.std.specs.Prelude.{Bool, false, Option, Some, None, Result, Ok, Err, List, [], ◌∷◌, ◌++◌, ℕ, ℤ, pos, neg_ℤ, length}
 use Rattle.refusal.specs.RefusalNumbers.{number_of, verdict_number}
 use Rattle.refusal.specs.Tests.{Test, test, decided}
 use Rattle.exact.specs.Range.{between}
 use Rattle.digits.specs.Text.{text}
 use Rattle.digits.specs.Writing.{fits, over}
-use Rattle.card.specs.Fields.{is_held, is_read, number_in, is_field, slot_index, field_of, put, keeping}
+use Rattle.refusal.specs.declared.Refusal.{Refusal}
+use Rattle.card.specs.Fields.{is_held, is_read, number_in, is_field, slot_index, field_of, put, keeping, Before}
 use Rattle.card.specs.declared.Field.{Field}
 use Rattle.card.specs.declared.Field.TheVariants.{Empty, Heard, Read, Confirmed}
 use Rattle.card.specs.declared.Latest.{Latest}
-use Rattle.card.specs.declared.Latest.TheVariants.{NothingToUndo, Before}
 use Rattle.card.specs.declared.Card.{Card}
-use Rattle.card.specs.declared.CardAnswer.{CardAnswer}
-use Rattle.card.specs.declared.Reading.{Reading}
-use Rattle.card.specs.declared.Reading.TheVariants.{Written, Refused}
-use Rattle.card.specs.declared.ReadAnswer.{ReadAnswer}
 
 -- ---- the answers
 -- of hearing, confirming and undoing
@@ -24,8 +20,8 @@ pub record CardValues : Type 0 where
   pub refusal : ℕ
   pub card : Card
 
-abbrev pub card_values : CardAnswer → CardValues
-card_values a = record { refusal = verdict_number a.verdict; card = a.card }
+abbrev pub card_values : Result Unit Refusal → Card → CardValues
+card_values r c = record { refusal = verdict_number r; card = c }
 
 abbrev pub accepted : Card → CardValues
 accepted c = record { refusal = 0; card = c }
@@ -39,12 +35,9 @@ pub record ReadValues : Type 0 where
   pub length : ℕ
   pub card : Card
 
-abbrev pub reading_values : Reading → Card → ReadValues
-reading_values (Written k) c = record { refusal = 0; length = k; card = c }
-reading_values (Refused r) c = record { refusal = number_of r; length = 0; card = c }
-
-abbrev pub read_values : ReadAnswer → ReadValues
-read_values a = reading_values a.reading a.card
+abbrev pub read_values : Result ℕ Refusal → Card → ReadValues
+read_values (Ok k) c = record { refusal = 0; length = k; card = c }
+read_values (Err r) c = record { refusal = number_of r; length = 0; card = c }
 
 abbrev pub written_out : ℕ → Card → ReadValues
 written_out k c = record { refusal = 0; length = k; card = c }
@@ -103,16 +96,16 @@ confirm c f = decided (confirm_tests c f) (accepted (put c (slot_index f) (Confi
 
 -- ---- undoing: the field of the latest accepted hearing is again what it was before, state and number, and after that there is nothing to undo
 -- (no hearing keeps a number that no field has; a card that had one would have nothing to undo)
-abbrev pub can_undo : Latest → Bool
-can_undo NothingToUndo = false
-can_undo (Before f v) = is_field f
+abbrev pub can_undo : Option Latest → Bool
+can_undo None = false
+can_undo (Some l) = is_field l.field
 
-abbrev pub put_back : Card → Latest → Card
-put_back c NothingToUndo = c
-put_back c (Before f v) = put c (slot_index f) v
+abbrev pub put_back : Card → Option Latest → Card
+put_back c None = c
+put_back c (Some l) = put c (slot_index l.field) l.before
 
 abbrev pub undo_card : Card → Card
-undo_card c = keeping (put_back c c.latest) NothingToUndo
+undo_card c = keeping (put_back c c.latest) None
 
 abbrev pub undo_tests : Card → List Test
 undo_tests c = test (can_undo c.latest) 18 ∷ []

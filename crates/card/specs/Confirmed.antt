@@ -1,13 +1,13 @@
 -- Document 01, "Refusal numbers", refusal 1 (RULES.md, "Refusals"): what a shot from a card works on, the numbers of all fields where every field is
 -- confirmed.
-use Rattle.std.specs.Prelude.{Bool, true, ◌&&◌, List, [], ◌∷◌, map, ℕ, zero, suc, ℤ, pos, replicate}
-use Rattle.refusal.specs.RefusalNumbers.{verdict_number}
+use Rattle.std.specs.Prelude.{Bool, true, ◌&&◌, Result, Ok, Err, List, [], ◌∷◌, map, ℕ, zero, suc, ℤ, pos, replicate}
+use Rattle.refusal.specs.RefusalNumbers.{number_of}
 use Rattle.refusal.specs.Tests.{Test, test, decided}
+use Rattle.refusal.specs.declared.Refusal.{Refusal}
 use Rattle.exact.specs.Nth.{nth}
 use Rattle.card.specs.Fields.{is_confirmed, number_in, field_count, slot_index, field_at}
 use Rattle.card.specs.declared.Field.{Field}
 use Rattle.card.specs.declared.Card.{Card}
-use Rattle.card.specs.declared.ConfirmedNumbers.{ConfirmedNumbers}
 
 -- the k fields from index i on, in order; and so all fields of the card
 unfoldable pub fields_from : Card → ℕ → ℕ → List Field
@@ -47,8 +47,9 @@ given numbers = record { refusal = 0; numbers = numbers }
 abbrev pub withheld : ℕ → ConfirmedValues
 withheld k = record { refusal = k; numbers = replicate field_count (pos 0) }
 
-abbrev pub confirmed_values : ConfirmedNumbers → ConfirmedValues
-confirmed_values r = record { refusal = verdict_number r.verdict; numbers = r.numbers }
+abbrev pub confirmed_values : Result (List ℤ) Refusal → ConfirmedValues
+confirmed_values (Ok numbers) = given numbers
+confirmed_values (Err r) = withheld (number_of r)
 
 abbrev pub confirmed_numbers : Card → ConfirmedValues
 confirmed_numbers c = decided (card_tests c) (given (numbers_in c)) withheld

@@ -1,15 +1,14 @@
 -- Histories of calls on a card (document 01, "The card"; document 02, request 6; RULES.md, "The card"): what an undo takes back, and what it means that a
 -- number was heard, then read out, then confirmed. proofs/ConfirmedWasReadOut.antt has the theorem that every confirmed number was, from any card on.
-use Rattle.std.specs.Prelude.{◌≡◌, Bool, true, false, cond, ◌&&◌, ◌≢◌, ◌⊎◌, List, [], ◌∷◌, ◌++◌, ℕ, ◌≤◌, ℤ, pos, nat_abs}
+use Rattle.std.specs.Prelude.{◌≡◌, Bool, true, false, cond, ◌&&◌, ◌≢◌, ◌⊎◌, Option, Some, None, List, [], ◌∷◌, ◌++◌, ℕ, ◌≤◌, ℤ, pos, nat_abs}
 use Rattle.digits.specs.Text.{text}
 use Rattle.digits.specs.Writing.{over}
-use Rattle.card.specs.Fields.{number_in, is_field, DUT1, field_of}
+use Rattle.card.specs.Fields.{number_in, is_field, DUT1, field_of, Before}
 use Rattle.card.specs.Calls as Calls
 use Rattle.card.specs.Calls.{can_be_heard, buffer_after}
 use Rattle.card.specs.declared.Field.{Field}
 use Rattle.card.specs.declared.Field.TheVariants.{Heard, Read, Confirmed}
 use Rattle.card.specs.declared.Latest.{Latest}
-use Rattle.card.specs.declared.Latest.TheVariants.{NothingToUndo, Before}
 use Rattle.card.specs.declared.Card.{Card}
 
 -- ---- calls
@@ -149,9 +148,9 @@ abbrev pub Small : Field → Type 0
 Small v = nat_abs (number_in v) ≤ 9_999_999
 
 -- the same of what is kept for an undo, which is a field's
-abbrev pub KeptSmall : Latest → Type 0
-KeptSmall NothingToUndo = Unit {0}
-KeptSmall (Before f v) = (is_field f ≡ true) × Small v
+abbrev pub KeptSmall : Option Latest → Type 0
+KeptSmall None = Unit {0}
+KeptSmall (Some l) = (is_field l.field ≡ true) × Small l.before
 
 abbrev pub HeldSmall : Card → Type 0
 HeldSmall c = ((f : ℤ) → Small (field_of c f)) × KeptSmall c.latest

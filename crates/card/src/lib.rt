@@ -1,15 +1,12 @@
-// The card of spoken fields. Document 01, "The card"; document 02, requests 3 (field 11), 4 (the start) and 6 (undo). A number counts only after
-// it was heard, read out and confirmed. The calls take a card by value and answer the card afterwards; a refused call answers the card as it was.
+// The card of spoken fields. A number counts only after it was heard, read out and confirmed. A refused call leaves the card as it was.
 #![tactic(auto)]
 
-ghost use Rattle.std.specs.Prelude.{◌≡◌, true, ◌<◌, ◌^◌, nat_abs};
-ghost use Rattle.refusal.specs.RefusalNumbers.{verdict_number};
-ghost use Rattle.card.specs.Fields.{is_held, number_in, field_count, is_field, slot_index, field_at, field_of, put, keeping, card_of_parts, fresh_card, fresh_with_dut1_assumed_zero};
-ghost use Rattle.card.specs.Calls.{card_values, reading_values, read_values, hear, confirm, undo, read_state, read, buffer_after};
+ghost use Rattle.std.specs.Prelude.{◌≡◌, true, ◌<◌, ◌^◌, nat_abs, IfOk};
+ghost use Rattle.card.specs.Fields.{number_held, number_in, field_count, is_field, index_of, field_of, from_parts, fresh_card, fresh_with_dut1_assumed_zero};
+ghost use Rattle.card.specs.Calls.{card_values, read_values, hear, confirm, undo, read_state, read, buffer_after};
 ghost use Rattle.card.specs.Confirmed.{confirmed_values, confirmed_numbers};
 
-use digits::Written;
-use refusal::{Refusal, Verdict};
+use refusal::Refusal;
 
 // How many fields a card has.
 pub const FIELDS: usize = 11;
@@ -21,7 +18,7 @@ const DUT1: usize = 6;
 pub const LARGEST_HEARD: i64 = 9_999_999;
 
 // The state of a field. All but an empty one hold a number.
-#[derive(Clone, Copy)]
+#[derive(Clone, Copy, Debug, PartialEq, Eq)]
 pub enum Field {
     Empty,
     Heard(i64),
@@ -29,54 +26,19 @@ pub enum Field {
     Confirmed(i64),
 }
 
-#[derive(Clone, Copy)]
-pub struct Slot {
-    pub field: Field,
-}
-
 // What an undo puts back: the latest accepted hearing was for the field of this number, and this is what the field was before it.
-#[derive(Clone, Copy)]
-pub enum Latest {
-    NothingToUndo,
-    Before(i64, Field),
+#[derive(Clone, Copy, Debug, PartialEq, Eq)]
+pub struct Latest {
+    pub field: i64,
+    pub before: Field,
 }
 
 // A card is made by one of the two starts and changed by the calls alone: its fields are not public, so that no caller writes a confirmed
-// number into it, or into what an undo puts back. (`card_of_parts` is for crate `card_words` alone.)
-#[derive(Clone, Copy)]
+// number into it, or into what an undo puts back. (`from_parts` is for crate `card_words` alone.)
+#[derive(Clone, Copy, Debug, PartialEq, Eq)]
 pub struct Card {
-    slots: [Slot; FIELDS],
-    latest: Latest,
-}
-
-// What hearing, confirming and undoing answer.
-#[derive(Clone, Copy)]
-pub struct CardAnswer {
-    pub verdict: Verdict,
-    pub card: Card,
-}
-
-// What became of a reading.
-#[derive(Clone, Copy)]
-pub enum Reading {
-    // The text stands in the buffer, and is so many bytes long.
-    Written(usize),
-    Refused(Refusal),
-}
-
-// What reading answers.
-#[derive(Clone, Copy)]
-pub struct ReadAnswer {
-    pub reading: Reading,
-    pub card: Card,
-}
-
-// What a shot from a card works on: where every field is confirmed, the numbers in the order of the fields, in the units of document 01's
-// table; else refusal 1, and zeros.
-#[derive(Clone, Copy)]
-pub struct ConfirmedNumbers {
-    pub verdict: Verdict,
-    pub numbers: [i64; FIELDS],
+    fields: [Field; FIELDS],
+    latest: Option<Latest>,
 }
 
 // Whether a field has this number.
@@ -86,229 +48,157 @@ pub fn is_field(field: i64) -> bool
     exact::between(1, field, FIELDS as i64)
 }
 
-// The index of a field on the card: one less than its number.
-fn slot_index(field: i64) -> usize
-    requires { is_field field ≡ true }
-    ensures { (result ≡ slot_index field) × (result < field_count) }
-{
-    field as usize - 1
-}
-
-// Whether a field holds a number.
-fn is_held(field: Field) -> bool
-    ensures { result ≡ is_held field }
-{
-    match field {
-        Field::Empty => false,
-        _ => true,
-    }
-}
-
-// The number that a field holds. Of an empty one it is 0, which nobody uses.
-pub fn number_in(field: Field) -> i64
-    ensures { result ≡ number_in field }
-{
-    match field {
-        Field::Empty => 0,
-        Field::Heard(n) => n,
-        Field::Read(n) => n,
-        Field::Confirmed(n) => n,
-    }
-}
-
-// The state of a field after it was read out.
-fn read_state(field: Field) -> Field
-    ensures { result ≡ read_state field }
-{
-    match field {
-        Field::Heard(n) => Field::Read(n),
-        _ => field,
-    }
-}
-
-// The field at an index of the card.
-pub fn field_at(card: Card, i: usize) -> Field
-    requires { i < field_count }
-    ensures { result ≡ field_at card i }
-{
-    let slot = card.slots[i];
-    slot.field
-}
-
-// The card with another field at an index.
-fn put(card: Card, i: usize, field: Field) -> Card
-    requires { i < field_count }
-    ensures { result ≡ put card i field }
-{
-    let mut next = card;
-    next.slots[i] = Slot { field: field };
-    next
-}
-
-// The card with something else to undo.
-fn keeping(card: Card, latest: Latest) -> Card
-    ensures { result ≡ keeping card latest }
-{
-    let slots = card.slots;
-    card_of_parts(slots, latest)
-}
-
-// A fresh card: every field is empty, and there is nothing to undo.
-pub fn fresh() -> Card
-    ensures { result ≡ fresh_card }
-{
-    let empty = Slot {
-        field: Field::Empty,
-    };
-    let slots = [empty; FIELDS];
-    Card {
-        slots: slots,
-        latest: Latest::NothingToUndo,
-    }
-}
-
-// The start before request 4, for programs elsewhere that rely on it: DUT1 stands confirmed as 0 ms, though nobody has said so, and every
-// other field is empty. Nothing of the book starts from it (compare/assumed-dut1).
-pub fn fresh_with_dut1_assumed_zero() -> Card
-    ensures { result ≡ fresh_with_dut1_assumed_zero }
-{
-    put(fresh(), DUT1, Field::Confirmed(0))
-}
-
-// A card of its parts, whatever they are. Only crate `card_words` may use it, for a card that somebody else keeps
-// (compare/restored-card).
-pub fn card_of_parts(slots: [Slot; FIELDS], latest: Latest) -> Card
-    ensures { result ≡ card_of_parts slots latest }
-{
-    Card {
-        slots: slots,
-        latest: latest,
-    }
-}
-
-// What an undo puts back.
-pub fn latest_of(card: Card) -> Latest
-    ensures { result ≡ card.latest }
-{
-    card.latest
-}
-
-// The answers, put together.
-fn card_answer(verdict: Verdict, card: Card) -> CardAnswer
-    ensures { card_values result ≡ record { refusal = verdict_number verdict; card = card } }
-{
-    CardAnswer {
-        verdict: verdict,
-        card: card,
-    }
-}
-
-// Hears a number into a field, whatever stood there; that is kept for an undo. Refusals 9, 13.
-pub fn hear(card: Card, field: i64, number: i64) -> CardAnswer
-    ensures { card_values result ≡ hear card field number }
+// Where the field of this number stands on the card: one less than the number. Refusal 9, where no field has it.
+fn index_of(field: i64) -> Result<usize, Refusal>
+    ensures value { result ≡ index_of field }
+    ensures within { IfOk result (λ i. i < field_count) }
 {
     if !is_field(field) {
-        return card_answer(Verdict::Refused(Refusal::NoField), card);
+        return Err(Refusal::NoField);
     }
-    if !exact::between(-LARGEST_HEARD, number, LARGEST_HEARD) {
-        return card_answer(Verdict::Refused(Refusal::TooLarge), card);
-    }
-    let i = slot_index(field);
-    let before = field_at(card, i);
-    let heard = put(card, i, Field::Heard(number));
-    card_answer(
-        Verdict::Accepted,
-        keeping(heard, Latest::Before(field, before)),
-    )
+    Ok(field as usize - 1)
 }
 
-fn read_answer(reading: Reading, card: Card) -> ReadAnswer
-    ensures { read_values result ≡ reading_values reading card }
-{
-    ReadAnswer {
-        reading: reading,
-        card: card,
+impl Field {
+    // The number that a field holds. An empty one holds none.
+    pub fn number(self) -> Option<i64>
+        ensures { result ≡ number_held self }
+    {
+        match self {
+            Field::Empty => None,
+            Field::Heard(n) | Field::Read(n) | Field::Confirmed(n) => Some(n),
+        }
+    }
+
+    // The field after it was read out.
+    fn read_out(self) -> Field
+        ensures { result ≡ read_state self }
+    {
+        match self {
+            Field::Heard(n) => Field::Read(n),
+            _ => self,
+        }
     }
 }
 
-// Reads a field out: writes its text from a place of the buffer on; a heard field is read from then on. Refusals 9, 10, 11. The range of the
-// number tells a caller how much room is always enough.
-pub fn read(card: Card, field: i64, buf: &mut [u8], place: usize) -> ReadAnswer
-    ensures result_value { read_values result ≡ read card field buf.old place }
-    ensures buf_after { buf.new ≡ buffer_after card field buf.old place }
-    ensures field_bound { nat_abs (number_in (field_of card field)) < 2 ^ 64 }
-{
-    if !is_field(field) {
-        return read_answer(Reading::Refused(Refusal::NoField), card);
+impl Card {
+    // A fresh card: every field is empty, and there is nothing to undo.
+    pub fn fresh() -> Card
+        ensures { result ≡ fresh_card }
+    {
+        Card {
+            fields: [Field::Empty; FIELDS],
+            latest: None,
+        }
     }
-    let i = slot_index(field);
-    let state = field_at(card, i);
-    if !is_held(state) {
-        return read_answer(Reading::Refused(Refusal::EmptyField), card);
-    }
-    let Written::Bytes(length) = digits::write_at(buf, place, number_in(state)) else {
-        return read_answer(Reading::Refused(Refusal::NoRoom), card);
-    };
-    read_answer(Reading::Written(length), put(card, i, read_state(state)))
-}
 
-// Confirms a field that was read out. Refusals 9, 12.
-pub fn confirm(card: Card, field: i64) -> CardAnswer
-    ensures { card_values result ≡ confirm card field }
-{
-    if !is_field(field) {
-        return card_answer(Verdict::Refused(Refusal::NoField), card);
+    // An older start, for programs elsewhere that rely on it: DUT1 stands confirmed as 0 ms, though nobody has said so, and every other field is empty.
+    // Nothing of the book starts from it (compare/assumed-dut1).
+    pub fn fresh_with_dut1_assumed_zero() -> Card
+        ensures { result ≡ fresh_with_dut1_assumed_zero }
+    {
+        let mut card = Card::fresh();
+        card.fields[DUT1] = Field::Confirmed(0);
+        card
     }
-    let i = slot_index(field);
-    let Field::Read(number) = field_at(card, i) else {
-        return card_answer(Verdict::Refused(Refusal::NotRead), card);
-    };
-    card_answer(Verdict::Accepted, put(card, i, Field::Confirmed(number)))
-}
 
-// Undoes the latest accepted hearing: its field is again what it was before, state and number, whatever was read or confirmed since, and every
-// other field stays. Then there is nothing to undo until the next accepted hearing. Refusal 18. (A hearing keeps only numbers that a field
-// has. The contract is for every card, so this is tested.)
-pub fn undo(card: Card) -> CardAnswer
-    ensures { card_values result ≡ undo card }
-{
-    let latest = card.latest;
-    let Latest::Before(field, before) = latest else {
-        return card_answer(Verdict::Refused(Refusal::NothingToUndo), card);
-    };
-    if !is_field(field) {
-        return card_answer(Verdict::Refused(Refusal::NothingToUndo), card);
+    // A card of its parts, whatever they are. Only crate `card_words` may use it, for a card that somebody else keeps
+    // (compare/restored-card).
+    pub fn from_parts(fields: [Field; FIELDS], latest: Option<Latest>) -> Card
+        ensures { result ≡ from_parts fields latest }
+    {
+        Card { fields, latest }
     }
-    let restored = put(card, slot_index(field), before);
-    card_answer(Verdict::Accepted, keeping(restored, Latest::NothingToUndo))
-}
 
-// The state of a field; a number that no field has is as good as an empty field.
-pub fn field_of(card: Card, field: i64) -> Field
-    ensures { result ≡ field_of card field }
-{
-    if !is_field(field) {
-        return Field::Empty;
+    // The fields, in the order of their numbers.
+    pub fn fields(&self) -> &[Field; FIELDS]
+        ensures { result.now ≡ self.now.fields }
+    {
+        &self.fields
     }
-    field_at(card, slot_index(field))
-}
 
-// The numbers that a shot from a card works on, or refusal 1.
-pub fn confirmed_numbers(card: Card) -> ConfirmedNumbers
-    ensures { confirmed_values result ≡ confirmed_numbers card }
-{
-    let mut numbers = [0; FIELDS];
-    for i in 0..FIELDS {
-        let Field::Confirmed(number) = field_at(card, i) else {
-            return ConfirmedNumbers {
-                verdict: Verdict::Refused(Refusal::NotConfirmed),
-                numbers: [0; FIELDS],
-            };
+    // What an undo puts back, if there is something to undo.
+    pub fn latest(&self) -> Option<Latest>
+        ensures { result ≡ self.now.latest }
+    {
+        self.latest
+    }
+
+    // The state of a field; a number that no field has is as good as an empty field.
+    #[tactic(auto, unfolding(crate::specs::Fields::field_of))]
+    pub fn field_of(&self, field: i64) -> Field
+        ensures { result ≡ field_of self.now field }
+    {
+        index_of(field).map_or(Field::Empty, |i| self.fields[i])
+    }
+
+    // Hears a number into a field, whatever stood there; that is kept for an undo. Refusals 9, 13.
+    #[tactic(auto, unfolding(crate::specs::Fields::field_of))]
+    pub fn hear(&mut self, field: i64, number: i64) -> Result<(), Refusal>
+        ensures { card_values result self.new ≡ hear self.old field number }
+    {
+        let i = index_of(field)?;
+        if !exact::between(-LARGEST_HEARD, number, LARGEST_HEARD) {
+            return Err(Refusal::TooLarge);
+        }
+        let before = self.fields[i];
+        self.fields[i] = Field::Heard(number);
+        self.latest = Some(Latest { field, before });
+        Ok(())
+    }
+
+    // Reads a field out: writes its text from a place of the buffer on, and says how many bytes it takes; a heard field is read from then on.
+    // Refusals 9, 10, 11. The range of the number tells a caller how much room is always enough.
+    #[tactic(auto, unfolding(crate::specs::Fields::field_of))]
+    pub fn read(&mut self, field: i64, buf: &mut [u8], place: usize) -> Result<usize, Refusal>
+        ensures result_value { read_values result self.new ≡ read self.old field buf.old place }
+        ensures buf_after { buf.new ≡ buffer_after self.old field buf.old place }
+        ensures field_bound { nat_abs (number_in (field_of self.old field)) < 2 ^ 64 }
+    {
+        let i = index_of(field)?;
+        let number = self.fields[i].number().ok_or(Refusal::EmptyField)?;
+        let length = digits::write_at(buf, place, number).ok_or(Refusal::NoRoom)?;
+        self.fields[i] = self.fields[i].read_out();
+        Ok(length)
+    }
+
+    // Confirms a field that was read out. Refusals 9, 12.
+    #[tactic(auto, unfolding(crate::specs::Fields::field_of))]
+    pub fn confirm(&mut self, field: i64) -> Result<(), Refusal>
+        ensures { card_values result self.new ≡ confirm self.old field }
+    {
+        let i = index_of(field)?;
+        let Field::Read(number) = self.fields[i] else {
+            return Err(Refusal::NotRead);
         };
-        numbers[i] = number;
+        self.fields[i] = Field::Confirmed(number);
+        Ok(())
     }
-    ConfirmedNumbers {
-        verdict: Verdict::Accepted,
-        numbers: numbers,
+
+    // Undoes the latest accepted hearing: its field is again what it was before, state and number, whatever was read or confirmed since, and every
+    // other field stays. Then there is nothing to undo until the next accepted hearing. Refusal 18. (A hearing keeps only numbers that a field
+    // has. The contract is for every card, so this is tested.)
+    pub fn undo(&mut self) -> Result<(), Refusal>
+        ensures { card_values result self.new ≡ undo self.old }
+    {
+        let latest = self.latest.ok_or(Refusal::NothingToUndo)?;
+        let i = index_of(latest.field).or(Err(Refusal::NothingToUndo))?;
+        self.fields[i] = latest.before;
+        self.latest = None;
+        Ok(())
+    }
+
+    // The numbers that a shot from the card works on, in the order of the fields and in their units. Refusal 1, where a field is not confirmed.
+    pub fn confirmed_numbers(&self) -> Result<[i64; FIELDS], Refusal>
+        ensures { confirmed_values result ≡ confirmed_numbers self.now }
+    {
+        let mut numbers = [0; FIELDS];
+        for (i, field) in self.fields.iter().enumerate() {
+            let Field::Confirmed(number) = *field else {
+                return Err(Refusal::NotConfirmed);
+            };
+            numbers[i] = number;
+        }
+        Ok(numbers)
     }
 }

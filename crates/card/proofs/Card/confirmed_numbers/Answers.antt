@@ -15,8 +15,8 @@ use Rattle.card.specs.Confirmed.{fields_from, every_confirmed, given, withheld, 
 use Rattle.card.specs.declared.Field.TheVariants.{Confirmed}
 use Rattle.card.specs.declared.Card.{Card}
 use Rattle.card.proofs.States.{not-confirmed}
-use Rattle.card.proofs.confirmed_numbers.Invariants.{answer, left}
-use Rattle.card.proofs.confirmed_numbers.Goals as goal
+use Rattle.card.proofs.Card.confirmed_numbers.Invariants.{answer, left}
+use Rattle.card.proofs.Card.confirmed_numbers.Goals as goal
 
 module _ (c : Card) where
   none-gathered : answer (replicate field_count (pos 0)) 0 (left c 0) ≡ confirmed_numbers c
@@ -42,22 +42,18 @@ module _ (c : Card) where
       next-not-confirmed e = rw (next-left, e)
 
 pub loop-i-init : goal.loop-i-init
-loop-i-init c = none-gathered c.args.card
+loop-i-init c = none-gathered c.args.self.now
 
 pub returns-in_default : goal.returns-in_default
 returns-in_default c =
     let l = c.loop-i in
-    next-not-confirmed _ l.numbers l.i (omega arith)
-    (ap is_confirmed (sym c.field_at.ensures) ∙ not-confirmed c.field_at.result c.in_default.not-Confirmed)
-    ∙ l.invariant
+    next-not-confirmed _ l.numbers l.i (omega arith) (not-confirmed _ c.in_default.not-Confirmed) ∙ l.invariant
 
 pub loop-i-preserved : goal.loop-i-preserved
 loop-i-preserved c =
     let l = c.loop-i in
     let fits : SFits w64 c.in-Confirmed.number = search rules in
-    next-confirmed _ l.numbers l.i (omega arith)
-    (sym c.field_at.ensures ∙ c.in-Confirmed.is ∙ ap Confirmed (sym (to_z-of_z fits)))
-    ∙ l.invariant
+    next-confirmed _ l.numbers l.i (omega arith) (c.in-Confirmed.is ∙ ap Confirmed (sym (to_z-of_z fits))) ∙ l.invariant
 
 pub returns : goal.returns
 returns c = let l = c.loop-i in all-gathered _ l.numbers l.i (omega arith) ∙ l.invariant
