@@ -1,11 +1,10 @@
-// The frame of the date: nutation, the obliquity of the ecliptic ("The Sun" in document 01), Greenwich sidereal time ("Time").
+// The frame of the date: nutation, the obliquity of the ecliptic, Greenwich sidereal time.
 #![tactic(auto)]
 
 mod tables;
 
 ghost use Rattle.std.specs.Prelude.{◌≡◌, ◌≤◌, ◌<◌, ◌^◌, nat_abs};
 ghost use Rattle.exact.specs.Reduction.{turn};
-ghost use Rattle.sine_table.specs.Table.{entries};
 ghost use Rattle.epoch.specs.Sizes.{InSpan};
 ghost use Rattle.arguments.specs.Sizes.{IsArguments};
 ghost use Rattle.frame.specs.Nutation.{dpsi, deps};
@@ -13,11 +12,10 @@ ghost use Rattle.frame.specs.Sidereal.{equinoxes, sidereal_time};
 ghost use Rattle.frame.specs.FrameContract.{IsFrame};
 
 use epoch::Epoch;
-use sine_table::SineTable;
 
 // The orientation of the equator at an epoch, in units: ε₀, the mean obliquity; Δψ, the nutation in longitude; ε, the true obliquity, which is
 // ε₀ with Δε, the nutation in obliquity.
-#[derive(Clone, Copy)]
+#[derive(Clone, Copy, Debug, PartialEq, Eq)]
 pub struct Frame {
     pub epsilon0: i64,
     pub dpsi: i64,
@@ -25,12 +23,11 @@ pub struct Frame {
 }
 
 // Δψ of an epoch, from its arguments.
-pub fn dpsi(t: &SineTable, arguments: &[i64], e: Epoch) -> i64
-    requires { (t.now ≡ entries) × IsArguments arguments.now × InSpan e }
+pub fn dpsi(arguments: &[i64], e: Epoch) -> i64
+    requires { IsArguments arguments.now × InSpan e }
     ensures { (result ≡ dpsi arguments.now e.q) × (nat_abs result ≤ 2 ^ 20) }
 {
     series::rounded_sum(
-        t,
         &tables::DPSI_VARYING,
         &tables::DPSI_GROUPS,
         &tables::DPSI_ROWS,
@@ -40,12 +37,11 @@ pub fn dpsi(t: &SineTable, arguments: &[i64], e: Epoch) -> i64
 }
 
 // Δε of an epoch, from its arguments.
-fn deps(t: &SineTable, arguments: &[i64], e: Epoch) -> i64
-    requires { (t.now ≡ entries) × IsArguments arguments.now × InSpan e }
+fn deps(arguments: &[i64], e: Epoch) -> i64
+    requires { IsArguments arguments.now × InSpan e }
     ensures { (result ≡ deps arguments.now e.q) × (nat_abs result ≤ 2 ^ 20) }
 {
     series::rounded_sum(
-        t,
         &tables::DEPS_VARYING,
         &tables::DEPS_GROUPS,
         &tables::DEPS_ROWS,
@@ -55,34 +51,34 @@ fn deps(t: &SineTable, arguments: &[i64], e: Epoch) -> i64
 }
 
 // The frame of an epoch, from its arguments.
-pub fn frame_of(t: &SineTable, arguments: &[i64], e: Epoch) -> Frame
-    requires { (t.now ≡ entries) × IsArguments arguments.now × InSpan e }
+pub fn frame_of(arguments: &[i64], e: Epoch) -> Frame
+    requires { IsArguments arguments.now × InSpan e }
     ensures { IsFrame arguments.now e.q result }
 {
     let epsilon0 = arguments[arguments::EPSILON0];
-    let dpsi = dpsi(t, arguments, e);
-    let deps = deps(t, arguments, e);
+    let dpsi = dpsi(arguments, e);
+    let deps = deps(arguments, e);
     Frame {
-        epsilon0: epsilon0,
-        dpsi: dpsi,
+        epsilon0,
+        dpsi,
         epsilon: epsilon0 + deps,
     }
 }
 
 // The equation of the equinoxes: Δψ·Cos(ε), in units.
-fn equinoxes(t: &SineTable, dpsi: i64, epsilon: i64) -> i64
-    requires { (t.now ≡ entries) × (nat_abs dpsi ≤ 2 ^ 20) × (nat_abs epsilon < 2 ^ 35) }
+fn equinoxes(dpsi: i64, epsilon: i64) -> i64
+    requires { (nat_abs dpsi ≤ 2 ^ 20) × (nat_abs epsilon < 2 ^ 35) }
     ensures { (result ≡ equinoxes dpsi epsilon) × (nat_abs result ≤ 2 ^ 20) }
 {
-    series::rounded(dpsi * sine::cos(t, exact::reduced_bounded(epsilon)))
+    series::rounded(dpsi * sine::cos(exact::reduced_bounded(epsilon)))
 }
 
 // Greenwich sidereal time at an epoch of universal time, with the equation of the equinoxes. In a millisecond the Earth rotates by 150 units;
 // the day begins at midnight, and N counts from noon.
-pub fn sidereal_time(t: &SineTable, universal: Epoch, dpsi: i64, epsilon: i64) -> u64
-    requires { (t.now ≡ entries) × InSpan universal × (nat_abs dpsi ≤ 2 ^ 20) × (nat_abs epsilon < 2 ^ 35) }
+pub fn sidereal_time(universal: Epoch, dpsi: i64, epsilon: i64) -> u64
+    requires { InSpan universal × (nat_abs dpsi ≤ 2 ^ 20) × (nat_abs epsilon < 2 ^ 35) }
     ensures { (result ≡ sidereal_time universal dpsi epsilon) × (result < turn) }
 {
     let excess = arguments::argument(tables::SIDEREAL, universal) as i64;
-    exact::reduced_bounded(150 * (universal.n + 43_200_000) + excess + equinoxes(t, dpsi, epsilon))
+    exact::reduced_bounded(150 * (universal.n + 43_200_000) + excess + equinoxes(dpsi, epsilon))
 }

@@ -7,14 +7,14 @@ use arguments::{L, LM, MS, OMEGA};
 const Q: i64 = 3_240_000_000;
 
 // The term of Δψ whose amplitude varies: c0, c1, c2, phase, and the multiple and index of its argument.
-pub const DPSI_VARYING: [[i64; 6]; 1] = [
+pub static DPSI_VARYING: [[i64; 6]; 1] = [
     [-172_327, -174, 0, 0, 1, OMEGA as i64], // −(17.2327 + 0.01737 T) sin Ω
 ];
 
 // The others: the indices of a group's arguments and how many rows it has; amplitude, phase and multiples of each row.
-pub const DPSI_GROUPS: [[usize; 4]; 2] = [[OMEGA, L, LM, 3], [MS, L, L, 1]];
+pub static DPSI_GROUPS: [[usize; 4]; 2] = [[OMEGA, L, LM, 3], [MS, L, L, 1]];
 
-pub const DPSI_ROWS: [[i64; 5]; 4] = [
+pub static DPSI_ROWS: [[i64; 5]; 4] = [
     [2_088, 0, 2, 0, 0], // 0.2088 sin 2Ω
     [-12_729, 0, 0, 2, 0], // −1.2729 sin 2L
     [-2_037, 0, 0, 0, 2], // −0.2037 sin 2Lm
@@ -22,11 +22,11 @@ pub const DPSI_ROWS: [[i64; 5]; 4] = [
 ];
 
 // The terms of Δε: no amplitude varies.
-pub const DEPS_VARYING: [[i64; 6]; 0] = [];
+pub static DEPS_VARYING: [[i64; 6]; 0] = [];
 
-pub const DEPS_GROUPS: [[usize; 4]; 1] = [[OMEGA, L, LM, 4]];
+pub static DEPS_GROUPS: [[usize; 4]; 1] = [[OMEGA, L, LM, 4]];
 
-pub const DEPS_ROWS: [[i64; 5]; 4] = [
+pub static DEPS_ROWS: [[i64; 5]; 4] = [
     [92_100, Q, 1, 0, 0], // 9.2100 cos Ω
     [5_522, Q, 0, 2, 0], // 0.5522 cos 2L
     [-904, Q, 2, 0, 0], // −0.0904 cos 2Ω

@@ -21,13 +21,13 @@ use Rattle.frame.proofs.dpsi.Goals as goal
 module _ (c : After-rounded_sum) where
   sum_is : (c.rounded_sum.result ≡ dpsi c.args.arguments.now c.args.e.q) × (nat_abs c.rounded_sum.result ≤ 2 ^ 20)
   unfolding dpsi weights most kept steady_term steady_terms varying_term nearest_div floor_div
-  sum_is = (simp (to_z-of_z, q-fits c.requires.2) at c.rounded_sum.ensures.0, le_trans c.rounded_sum.ensures.1 (lit≤ tt))
+  sum_is = (simp (to_z-of_z, q-fits c.requires.1) at c.rounded_sum.ensures.0, le_trans c.rounded_sum.ensures.1 (lit≤ tt))
 
 pub rounded_sum-requires : goal.rounded_sum-requires
 unfolding weights most kept steady_term steady_terms varying_term counts
 rounded_sum-requires c =
     let p = c.requires in
-    simp (to_z-of_z, q-fits p.2) (sum-ready argument_count p.0 p.1.reduced p.1.all (q-size p.2) tt tt tt)
+    simp (to_z-of_z, q-fits p.1) (sum-ready argument_count p.0.reduced p.0.all (q-size p.1) tt tt tt)
 
 pub returns : goal.returns
 returns c = simp (to_z-of_z, ok-fits c.rounded_sum.result c.rounded_sum.type_inv) (sum_is c)

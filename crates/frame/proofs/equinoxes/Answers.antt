@@ -27,7 +27,7 @@ module _ (c : After-cos) where
   cosine-is = c.cos.ensures.0 ∙ ap Cos (simp (to_z-of_z, start.ranges.epsilon) at c.before.reduced_bounded.ensures.0)
 
   product_le : nat_abs product ≤ R * 2 ^ 20
-  product_le = omega (arith, abs-*-le start.args.dpsi c.cos.result (2 ^ 20) R start.requires.1 c.cos.ensures.1)
+  product_le = omega (arith, abs-*-le start.args.dpsi c.cos.result (2 ^ 20) R start.requires.0 c.cos.ensures.1)
 
   fit : SFits w64 c.cos.result × SFits w64 product
   fit = (ok-fits c.cos.result c.cos.type_inv, fits_le (R * 2 ^ 20) product product_le refl)

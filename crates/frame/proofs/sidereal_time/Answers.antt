@@ -63,11 +63,11 @@ module _ (c : After-struct_told-1) where
   found-is = c.before.before.argument-excess.ensures
 
   fit : SFits w64 e.n × SFits w64 (pos found)
-  fit = (n-fits start.requires.1, record { sfits = omega (arith, found-is.1) })
+  fit = (n-fits start.requires.0, record { sfits = omega (arith, found-is.1) })
 
   -- before the last addend is known
   early : Sums e.n (pos found) (pos 0)
-  early = sums e.n (pos found) (pos 0) (n-size start.requires.1) found-is.1 (omega arith)
+  early = sums e.n (pos found) (pos 0) (n-size start.requires.0) found-is.1 (omega arith)
 
 module _ (c : After-equinoxes) where
   abbrev d : After-struct_told-1
@@ -77,7 +77,7 @@ module _ (c : After-equinoxes) where
   x = c.equinoxes.result
 
   late : Sums (e d).n (pos (found d)) x
-  late = sums (e d).n (pos (found d)) x (n-size (start d).requires.1) (found-is d).1 c.equinoxes.ensures.1
+  late = sums (e d).n (pos (found d)) x (n-size (start d).requires.0) (found-is d).1 c.equinoxes.ensures.1
 
   x-is : x ≡ equinoxes (start d).args.dpsi (start d).args.epsilon
   x-is = simp (to_z-of_z, (start d).ranges.dpsi, (start d).ranges.epsilon) at c.equinoxes.ensures.0
