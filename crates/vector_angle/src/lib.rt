@@ -71,25 +71,29 @@ struct Vector {
 }
 
 impl Vector {
-    // Whether the start of step n passes: the sine there is an entry, and so is the cosine, as far from the table's other end.
-    fn start_passes(self, n: usize) -> bool
-        requires { n ≤ step_count }
+    // Whether the start of step n passes, from which on the table has `rest` steps: the sine there is an entry, and so is the cosine, as far
+    // from the other end.
+    fn start_passes(self, n: usize, rest: usize) -> bool
+        requires { n + rest ≡ step_count }
         ensures { result ≡ start_passes self.x self.y n }
     {
-        self.x * sine_table::entry_at(n) <= self.y * sine_table::entry_at(STEPS - n)
+        self.x * sine_table::entry_at(n) <= self.y * sine_table::entry_at(rest)
     }
 
-    // The last step whose start passes, by halves: it is one of the `left` steps from n on.
+    // The last step whose start passes, by halves: it is one of the `left` steps from n on. `rest` is kept beside n, so that no try waits
+    // for a difference.
     fn last_step(self) -> usize
         requires { 0 < self.x }
         ensures { (result ≡ last_step self.x self.y) × Among (start_passes self.x self.y) result 1 step_count }
     {
         let mut n: usize = 0;
+        let mut rest: usize = STEPS;
         let mut left: usize = STEPS;
         while 1 < left {
             let half = left / 2;
-            if self.start_passes(n + half) {
+            if self.start_passes(n + half, rest - half) {
                 n += half;
+                rest -= half;
             }
             left -= half;
         }
