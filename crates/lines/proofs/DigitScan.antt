@@ -1,6 +1,7 @@
 -- The digits of a list of bytes, one byte at a time.
 use mathlib.Core.Path.{◌≡◌}
 use mathlib.Core.List.{List}
+use mathlib.Core.Logic.{inl, inr}
 use Prim.Native.Nat.{ℕ, ◌+◌, ◌-◌, ◌*◌, ◌^◌, ◌<◌, ◌≤◌}
 use native.Mathlib.Omega.{arith}
 use native.Mathlib.Nat.{pow-suc, pow-le-pow_right}
@@ -9,22 +10,20 @@ use lib.ListN.{length, drop, get_or, drop_of_length-le}
 use lib.Seq.{drop-cons}
 use borrow.Author.Tests.{lt-ltb, le-ltb}
 use Rattle.lines.specs.Numerals.{digits_from, digits_of}
-use Rattle.lines.specs.declared.Digits.TheVariants.{Value, Other}
+use Rattle.std.proofs.Common.{Some, None}
+use Rattle.std.specs.Char.{IsNotAsciiDigit}
 
 module _ (l : List ℕ) (i : ℕ) (h : i < length l) where
-  pub digit_low : (n : ℕ) → get_or l i 0 < 48 → Other ≡ digits_from n (drop i l)
+  pub no-digit : (n : ℕ) → IsNotAsciiDigit (get_or l i 0) → None ≡ digits_from n (drop i l)
   unfolding digits_from
-  digit_low n a = rw (drop-cons l i 0 h, lt-ltb (get_or l i 0) 48 a)
-
-  pub digit-high : (n : ℕ) → 48 ≤ get_or l i 0 → 57 < get_or l i 0 → Other ≡ digits_from n (drop i l)
-  unfolding digits_from
-  digit-high n a b = rw (drop-cons l i 0 h, le-ltb (get_or l i 0) 48 a, lt-ltb 57 (get_or l i 0) b)
+  no-digit n (inl a) = rw (drop-cons l i 0 h, lt-ltb (get_or l i 0) 48 a)
+  no-digit n (inr b) = let a : 48 ≤ get_or l i 0 = omega arith in rw (drop-cons l i 0 h, le-ltb (get_or l i 0) 48 a, lt-ltb 57 (get_or l i 0) b)
 
   pub digit : (n : ℕ) → 48 ≤ get_or l i 0 → get_or l i 0 ≤ 57 → digits_from (n * 10 + (get_or l i 0 - 48)) (drop (i + 1) l) ≡ digits_from n (drop i l)
   unfolding digits_from
   digit n a b = rw (add-one, drop-cons l i 0 h, le-ltb (get_or l i 0) 48 a, le-ltb 57 (get_or l i 0) b)
 
-pub digits-end : (l : List ℕ) (i n : ℕ) → length l ≤ i → Value n ≡ digits_from n (drop i l)
+pub digits-end : (l : List ℕ) (i n : ℕ) → length l ≤ i → Some n ≡ digits_from n (drop i l)
 unfolding digits_from
 digits-end l i n h = rw (drop_of_length-le l {i = i} h)
 
@@ -37,11 +36,5 @@ at-most-eighteen n i a b = let p : 10 ^ i ≤ 10 ^ 18 = pow-le-pow_right (omega 
 
 -- the length's tests
 module _ (most : ℕ) (l : List ℕ) where
-  pub too_short : length l < 1 → Other ≡ digits_of most l
-  too_short h = rw (lt-ltb (length l) 1 h)
-
-  pub too_long : 1 ≤ length l → most < length l → Other ≡ digits_of most l
-  too_long a b = rw (le-ltb (length l) 1 a, lt-ltb most (length l) b)
-
   pub right-length : 1 ≤ length l → length l ≤ most → digits_from 0 l ≡ digits_of most l
   right-length a b = rw (le-ltb (length l) 1 a, le-ltb most (length l) b)

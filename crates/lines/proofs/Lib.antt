@@ -2,6 +2,5 @@
 pub mod Found
 pub mod Appending
 pub mod DigitScan
-pub mod Numerals
 pub mod Parts
 pub mod Words

@@ -1,28 +1,18 @@
 -- The words of a line and the numbers that they are, one word at a time.
-use mathlib.Core.Path.{◌≡◌, refl, ap, ◌∙◌}
+use mathlib.Core.Path.{◌≡◌, refl, sym, ap, ◌∙◌}
 use mathlib.Core.Bool.{Bool, true, false, cond}
 use mathlib.Core.List.{List, [], ◌∷◌, ◌++◌}
-use Prim.Native.Nat.{ℕ, suc, ◌+◌, ◌-◌, ◌<◌, ◌≤◌}
+use Prim.Native.Nat.{ℕ, suc, ◌+◌, ◌<◌, ◌≤◌}
 use native.Mathlib.Omega.{arith}
 use native.Mathlib.Numerals.{add-one}
-use lib.Dec.{eqb, ltb}
+use lib.Dec.{eqb}
 use lib.IntN.{ℤ}
-use lib.ListN.{length, take, drop, set}
-use Rattle.std.specs.List.{slice_range}
-use lib.Seq.{take_all, take-suc-set, length-take-le}
+use lib.ListN.{length, take, drop}
+use lib.Seq.{drop-drop}
 use borrow.Author.Tests.{lt-ltb, le-ltb}
 use Rattle.lines.specs.Numerals.{numeral_of, prefixed, words, row_length, numbers_behind}
-use Rattle.lines.specs.declared.Numeral.TheVariants.{Number, NoNumber}
+use Rattle.std.proofs.Common.{Some, None}
 use Rattle.lines.specs.Bytes.{index_after, index_of}
-use Rattle.lines.proofs.Parts.{tail-part}
-
--- a search for a space found the end of what is left's first word
-module _ (s : List ℕ) (from k : ℕ) (found : k ≡ from + index_of 32 (slice_range s from (length s))) where
-  pub found-index : k ≡ from + index_of 32 (drop from s)
-  found-index = found ∙ ap (λ l. from + index_of 32 l) (tail-part from s)
-
-  pub word-found : (most : ℕ) → numeral_of most (take (k - from) (drop from s)) ≡ numeral_of most (take (index_of 32 (drop from s)) (drop from s))
-  word-found most = let f = found-index in let e : k - from ≡ index_of 32 (drop from s) = omega arith in ap (λ j. numeral_of most (take j (drop from s))) e
 
 -- the first word ends at the first space. (b: whether the first byte is a space)
 first_by : (b : Bool) (c k : ℕ) (l : List ℕ) (ws : List (List ℕ)) → ws ≡ take k l ∷ drop 1 ws
@@ -62,30 +52,26 @@ unfolding words index_of
 no-more-words [] h = refl
 no-more-words (c ∷ l) h = last-by (eqb c 32) c (index_of 32 l) l h (first_word l) (no-more-words l)
 
--- the numbers of a line behind the first n of a row's array, by its first word
-module _ (a : List ℤ) (full : length a ≡ row_length) (n most : ℕ) (l : List ℕ) where
-  pub no_number : NoNumber ≡ numeral_of most (take (index_of 32 l) l) → [] ≡ numbers_behind (take n a) most (words l)
+-- the numbers of a line behind those of a row, by its first word
+module _ (row : List ℤ) (most : ℕ) (l : List ℕ) where
+  pub no_number : None ≡ numeral_of most (take (index_of 32 l) l) → [] ≡ numbers_behind row most (words l)
   unfolding numbers_behind
   no_number e = rw (first_word l, ← e)
 
-  module _ (z : ℤ) (e : Number z ≡ numeral_of most (take (index_of 32 l) l)) where
-    pub no_room : row_length ≤ n → [] ≡ numbers_behind (take n a) most (words l)
+  module _ (z : ℤ) (e : Some z ≡ numeral_of most (take (index_of 32 l) l)) where
+    pub no_room : row_length ≤ length row → [] ≡ numbers_behind row most (words l)
     unfolding numbers_behind
-    no_room h = rw (take_all n a (omega arith), first_word l, ← e, le-ltb (length a) row_length (omega arith))
+    no_room h = rw (first_word l, ← e, le-ltb (length row) row_length h)
 
-    module _ (h : n < row_length) where
-      room : ltb (length (take n a)) row_length ≡ true
-      room = let k = length-take-le n a (omega arith) in lt-ltb (length (take n a)) row_length (omega arith)
-
-      stored : take (n + 1) (set a n z) ≡ take n a ++ (z ∷ [])
-      stored = rw add-one (take-suc-set a n z (omega arith))
-
-      pub last-number : length l ≤ index_of 32 l → take (n + 1) (set a n z) ≡ numbers_behind (take n a) most (words l)
+    module _ (h : length row < row_length) where
+      pub last-number : length l ≤ index_of 32 l → row ++ (z ∷ []) ≡ numbers_behind row most (words l)
       unfolding numbers_behind
-      last-number k = stored ∙ rw (first_word l, ← e, room, no-more-words l k)
+      last-number k = rw (first_word l, ← e, lt-ltb (length row) row_length h, no-more-words l k)
 
-      pub more_numbers : index_of 32 l < length l
-          → numbers_behind (take (n + 1) (set a n z)) most (words (drop (index_of 32 l + 1) l)) ≡ numbers_behind (take n a) most (words l)
+      pub more_numbers : index_of 32 l < length l → numbers_behind (row ++ (z ∷ [])) most (words (drop (index_of 32 l + 1) l)) ≡ numbers_behind row most (words l)
       unfolding numbers_behind
-      more_numbers k =
-          ap (λ row. numbers_behind row most (words (drop (index_of 32 l + 1) l))) stored ∙ rw (first_word l, ← e, room, more-words l k, add-one)
+      more_numbers k = rw (first_word l, ← e, lt-ltb (length row) row_length h, more-words l k, add-one)
+
+-- what lies behind the first k bytes and one more
+pub behind : (l next : List ℕ) (x k : ℕ) → drop k l ≡ x ∷ next → next ≡ drop (k + 1) l
+behind l next x k e = sym (ap (drop 1) e) ∙ drop-drop 1 k l

@@ -2,4 +2,3 @@
 pub mod Bytes
 pub mod Numerals
 pub mod Appending
-pub mod Sizes

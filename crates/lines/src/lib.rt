@@ -1,142 +1,82 @@
 // The bytes of a line: where it ends, its numbers, and the numbers and words of an answer.
 #![tactic(auto)]
 
-ghost use Rattle.std.specs.Prelude.{◌≡◌, [], ◌+◌, ◌^◌, ◌≤◌, length};
-ghost use Rattle.std.specs.List.{slice_range};
+ghost use Rattle.std.specs.Prelude.{◌≡◌, ◌+◌, ◌^◌, ◌<◌, ◌≤◌, length, IfSome};
+ghost use Rattle.arrayvec.specs.ArrayVec.{array_vec_len};
 ghost use Rattle.lines.specs.Bytes.{index_of};
-ghost use Rattle.lines.specs.Numerals.{digits_of, numeral_of, row_length, numbers_of, listed};
-ghost use Rattle.lines.specs.Sizes.{Below};
+ghost use Rattle.lines.specs.Numerals.{digits_of, numeral_of, row_length, numbers_of};
 ghost use Rattle.lines.specs.Appending.{decimal_text, Appends};
+
+use arrayvec::ArrayVec;
 
 // The most numbers that a line of any program has: a pointing's eleven fields, its horizontal angle and the edition.
 pub const ROW: usize = 13;
 
+// The numbers of a line. A line that is not numbers with one space between has none.
+pub type Row = ArrayVec<i64, ROW>;
+
 // The most digits of a number of 64 bits.
 const DIGITS: usize = 20;
 
-// What digits make.
-#[derive(Clone, Copy)]
-pub enum Digits {
-    Value(u64),
-    Other,
-}
-
-// What a word is.
-#[derive(Clone, Copy)]
-pub enum Numeral {
-    Number(i64),
-    NoNumber,
-}
-
-// The numbers of a line, the first `count` of the array. A line that is not numbers with one space between has none.
-#[derive(Clone, Copy)]
-pub struct Row {
-    pub numbers: [i64; ROW],
-    pub count: usize,
-}
-
-// The index of the first `b` in `s` from `from` on and before `to`, or `to` where there is none.
-pub fn find(s: &[u8], from: usize, to: usize, b: u8) -> usize
-    requires in_order { from ≤ to }
-    requires in_bounds { to ≤ length s.now }
-    ensures first { result ≡ from + index_of b (slice_range s.now from to) }
-    ensures within { result ≤ to }
+// The index of the first `b` in `s`, or its length where there is none.
+pub fn find(s: &[u8], b: u8) -> usize
+    ensures { (result ≡ index_of b s.now) × (result ≤ length s.now) }
 {
-    match memchr::memchr(b, &s[from..to]) {
-        Some(k) => from + k,
-        None => to,
-    }
-}
-
-fn wide(b: u8) -> u64
-    ensures { result ≡ b }
-{
-    b as u64
+    memchr::memchr(b, s).unwrap_or(s.len())
 }
 
 // 1 to `most` digits.
-fn digits_of(s: &[u8], most: usize) -> Digits
+fn digits_of(s: &[u8], most: usize) -> Option<u64>
     requires { most ≤ 18 }
     ensures value { result ≡ digits_of most s.now }
-    ensures below { Below (10 ^ 18) result }
+    ensures below { IfSome result (λ n. n < 10 ^ 18) }
 {
-    if s.len() < 1 {
-        return Digits::Other;
+    if s.is_empty() || most < s.len() {
+        return None;
     }
-    if most < s.len() {
-        return Digits::Other;
-    }
-    let mut n: u64 = 0;
-    let mut i = 0;
-    while i < s.len() {
-        let c = wide(s[i]);
-        if c < 48 {
-            return Digits::Other;
+    let mut n = 0;
+    for &c in s {
+        if !c.is_ascii_digit() {
+            return None;
         }
-        if 57 < c {
-            return Digits::Other;
-        }
-        n = n * 10 + (c - 48);
-        i += 1;
+        n = n * 10 + u64::from(c - b'0');
     }
-    Digits::Value(n)
+    Some(n)
 }
 
 // An optional "-" and 1 to `most` digits.
-fn numeral_of(s: &[u8], most: usize) -> Numeral
+fn numeral_of(s: &[u8], most: usize) -> Option<i64>
     requires { most ≤ 18 }
     ensures { result ≡ numeral_of most s.now }
 {
-    if s.len() == 0 {
-        return Numeral::NoNumber;
-    }
-    if s[0] == b'-' {
-        let Digits::Value(n) = digits_of(&s[1..], most) else {
-            return Numeral::NoNumber;
-        };
-        return Numeral::Number(0 - n as i64);
-    }
-    let Digits::Value(n) = digits_of(s, most) else {
-        return Numeral::NoNumber;
-    };
-    Numeral::Number(n as i64)
-}
-
-fn empty_row() -> Row
-    ensures result_value { listed result ≡ [] }
-    ensures count_le_row_length { result.count ≤ row_length }
-{
-    Row {
-        numbers: [0i64; ROW],
-        count: 0,
+    match s {
+        [b'-', digits @ ..] => Some(-(digits_of(digits, most)? as i64)),
+        _ => Some(digits_of(s, most)? as i64),
     }
 }
 
 // The numbers of a line, each an optional "-" and 1 to `most` digits, with one space between.
 pub fn numbers_of(s: &[u8], most: usize) -> Row
     requires { most ≤ 18 }
-    ensures result_value { listed result ≡ numbers_of most s.now }
-    ensures count_le_row_length { result.count ≤ row_length }
+    ensures numbers { result.items ≡ numbers_of most s.now }
+    ensures fits { array_vec_len result ≤ row_length }
 {
-    let mut row = empty_row();
-    let mut from = 0;
-    while from <= s.len() {
-        let k = find(s, from, s.len(), b' ');
-        let Numeral::Number(n) = numeral_of(&s[from..k], most) else {
-            return empty_row();
+    let mut row = Row::new();
+    let mut rest = s;
+    loop {
+        let (word, behind) = rest.split_at(find(rest, b' '));
+        let Some(n) = numeral_of(word, most) else {
+            return Row::new();
         };
-        let count = row.count;
-        if ROW <= count {
-            return empty_row();
+        if row.is_full() {
+            return Row::new();
         }
-        row.numbers[count] = n;
-        row.count = count + 1;
-        if s.len() <= k {
+        row.push(n);
+        let Some((_space, next)) = behind.split_first() else {
             return row;
-        }
-        from = k + 1;
+        };
+        rest = next;
     }
-    row
 }
 
 // Appends bytes, and returns where they end.
@@ -160,7 +100,7 @@ pub fn append_decimal(out: &mut [u8], place: usize, n: u64) -> usize
     while 10 <= m {
         from -= 1;
         text[from] = digits::last_digit(m);
-        m = m / 10;
+        m /= 10;
     }
     from -= 1;
     text[from] = digits::last_digit(m);

@@ -1,54 +1,35 @@
-use mathlib.Core.Path.{◌∙◌}
-use Prim.Native.Nat.{◌-◌}
-use native.Mathlib.Omega.{arith}
-use Rattle.lines.proofs.DigitScan.{digit_low, digit-high, digit, digits-end, digit-more, at-most-eighteen, right-length}
+use Rattle.std.proofs.Common.{◌≤◌, length, ◌∙◌, arith, rules, tests}
+use Rattle.lines.proofs.DigitScan.{no-digit, digit, digits-end, digit-more, at-most-eighteen, right-length}
 use Rattle.lines.proofs.digits_of.Goals as goal
 
-pub returns-then-c-lt48 : goal.returns-then-c-lt48
-returns-then-c-lt48 c =
+pub returns-then-not-is_ascii_digit-clause-value : goal.returns-then-not-is_ascii_digit-clause-value
+returns-then-not-is_ascii_digit-clause-value c =
     let l = c.args.s.now in
-    let e = c.wide-c.ensures in
-    record {
-      value =
-          digit_low l c.loop-i.i c.loop-i-test.true c.loop-i.n (omega arith)
-          ∙ c.loop-i.invariant.2 ∙ right-length c.args.most l (omega arith) c.if-most-s.false;
-      below = tt;
-    }
-
-pub returns-then-c-gt57 : goal.returns-then-c-gt57
-returns-then-c-gt57 c =
-    let l = c.args.s.now in
-    let e = c.wide-c.ensures in
-    record {
-      value =
-          digit-high l c.loop-i.i c.loop-i-test.true c.loop-i.n (omega arith) (omega arith)
-          ∙ c.loop-i.invariant.2 ∙ right-length c.args.most l (omega arith) c.if-most-s.false;
-      below = tt;
-    }
+    no-digit l c.loop-c.c-index c.loop-c-test.true c.loop-c.n c.if-not-is_ascii_digit.ensures.cases
+    ∙ c.loop-c.invariant.rest ∙ right-length c.args.most l (omega arith) c.if-most-s.false
 
 pub overflow_mul-n : goal.overflow_mul-n
-overflow_mul-n c = let p = at-most-eighteen c.loop-i.n c.loop-i.i c.loop-i.invariant.1 (omega (arith, c.requires)) in omega arith
+overflow_mul-n c = let p = at-most-eighteen c.loop-c.n c.loop-c.c-index c.loop-c.invariant.below (omega (arith, c.requires)) in omega arith
 
 pub overflow_add-n : goal.overflow_add-n
 overflow_add-n c =
-    let e = c.wide-c.ensures in
-    let p = at-most-eighteen c.loop-i.n c.loop-i.i c.loop-i.invariant.1 (omega (arith, c.requires)) in
+    let d = c.if-not-is_ascii_digit.ensures.cases in
+    let p = at-most-eighteen c.loop-c.n c.loop-c.c-index c.loop-c.invariant.below (omega (arith, c.requires)) in
     omega arith
 
-pub loop-i-preserved : goal.loop-i-preserved
-loop-i-preserved c =
-    let l = c.args.s.now in
-    let e = c.wide-c.ensures in (
-      omega arith,
-      digit-more c.loop-i.n (c.wide-c.result - 48) c.loop-i.i c.loop-i.invariant.1 (omega arith),
-      rw e (digit l c.loop-i.i c.loop-i-test.true c.loop-i.n (omega arith) (omega arith)) ∙ c.loop-i.invariant.2,
-    )
-
-pub returns : goal.returns
-returns c =
+pub loop-c-preserved : goal.loop-c-preserved
+loop-c-preserved c =
+    let d = c.if-not-is_ascii_digit.ensures.cases in
     record {
-      value =
-          digits-end c.args.s.now c.loop-i.i c.loop-i.n c.loop-i-test.false
-          ∙ c.loop-i.invariant.2 ∙ right-length c.args.most c.args.s.now (omega arith) c.if-most-s.false;
-      below = at-most-eighteen c.loop-i.n c.loop-i.i c.loop-i.invariant.1 (omega (arith, c.requires));
+      below = digit-more c.loop-c.n c.from.result c.loop-c.c-index c.loop-c.invariant.below (omega arith);
+      rest = rw c.from.ensures (digit c.args.s.now c.loop-c.c-index c.loop-c-test.true c.loop-c.n (omega arith) (omega arith) ∙ c.loop-c.invariant.rest);
     }
+
+pub returns-clause-value : goal.returns-clause-value
+returns-clause-value c =
+    let some : 1 ≤ length c.args.s.now = search (rules, tests) in
+    digits-end c.args.s.now c.loop-c.c-index c.loop-c.n c.loop-c-test.false
+    ∙ c.loop-c.invariant.rest ∙ right-length c.args.most c.args.s.now some c.if-most-s.false
+
+pub returns-clause-below : goal.returns-clause-below
+returns-clause-below c = at-most-eighteen c.loop-c.n c.loop-c.c-index c.loop-c.invariant.below (omega (arith, c.requires))
