@@ -46,10 +46,12 @@ module _ (a : ℤ) where
   neg-le : nat_abs (neg_ℤ (sin_of a)) ≤ R
   neg-le = rw abs_neg sin-le
 
--- as the machine holds the numbers that `sines_of` gives
-pub sines-held : (a c s m : ℤ) → (c ≡ cos_of a) × (s ≡ sin_of a) × (m ≡ neg_ℤ (sin_of a)) → (held c ≡ cos_of a) × (held s ≡ sin_of a) × (held m ≡ neg_ℤ (sin_of a))
-sines-held a c s m e =
-    rw (e.0, e.1, e.2)
+-- as the machine holds the numbers that `Sines::of` gives
+pub sines-held : (a : ℤ) {c s m : ℤ} → SFits w64 a → (c ≡ cos_of (held a)) × (s ≡ sin_of (held a)) × (m ≡ neg_ℤ (sin_of (held a)))
+    → (held c ≡ cos_of a) × (held s ≡ sin_of a) × (held m ≡ neg_ℤ (sin_of a))
+sines-held a fits e =
+    let is = simp (held-is, fits) at e in
+    rw (is.0, is.1, is.2)
     (held-is _ (fits_le R _ (cos-le a) refl), held-is _ (fits_le R _ (sin-le a) refl), held-is _ (fits_le R _ (neg-le a) refl))
 
 -- ---- the entries of a rotation

@@ -1,15 +1,14 @@
-// Directions and their rotations: document 01, "Polaris". A direction has three components in units of 1 / 1,000,000,000; a rotation has
-// three rows. Both go by value.
+// Directions and their rotations. A direction has three components in units of 1 / 1,000,000,000; a rotation has three rows. Both go by
+// value.
 #![tactic(auto)]
 
 ghost use Rattle.std.specs.Prelude.{◌≡◌, ◌+◌, ◌≤◌, ◌^◌, nat_abs, neg_ℤ};
-ghost use Rattle.sine_table.specs.Table.{R, entries};
+ghost use Rattle.sine_table.specs.Table.{R};
 ghost use Rattle.rotation.specs.Rotation.{dot, rotated, sin_of, cos_of, rotation1, rotation2, rotation3};
 ghost use Rattle.rotation.specs.Length.{Rotation, squared_length, growth};
 ghost use Rattle.rotation.specs.Sizes.{Bounded, reach, component_most, sum_most};
 
 use sine::RADIUS;
-use sine_table::SineTable;
 
 // A direction's components x, y, z.
 pub type Direction = [i64; 3];
@@ -25,43 +24,45 @@ struct Sines {
     minus: i64,
 }
 
-fn sines_of(t: &SineTable, a: i64) -> Sines
-    requires { (t.now ≡ entries) × (nat_abs a ≤ 2 ^ 61) }
-    ensures { (result.cos ≡ cos_of a) × (result.sin ≡ sin_of a) × (result.minus ≡ neg_ℤ (sin_of a)) }
-{
-    let b = exact::reduced_bounded(a);
-    let s = sine::sin(t, b);
-    Sines {
-        cos: sine::cos(t, b),
-        sin: s,
-        minus: -s,
+impl Sines {
+    fn of(a: i64) -> Sines
+        requires { nat_abs a ≤ 2 ^ 61 }
+        ensures { (result.cos ≡ cos_of a) × (result.sin ≡ sin_of a) × (result.minus ≡ neg_ℤ (sin_of a)) }
+    {
+        let b = exact::reduced_bounded(a);
+        let sin = sine::sin(b);
+        Sines {
+            cos: sine::cos(b),
+            sin,
+            minus: -sin,
+        }
     }
 }
 
 // R1(a): the rotation by a, in units of 0.0001 second of arc, about the first axis.
-pub fn rotation1(t: &SineTable, a: i64) -> Matrix
-    requires { (t.now ≡ entries) × (nat_abs a ≤ 2 ^ 61) }
+pub fn rotation1(a: i64) -> Matrix
+    requires { nat_abs a ≤ 2 ^ 61 }
     ensures { (result ≡ rotation1 a) × Rotation result }
 {
-    let k = sines_of(t, a);
+    let k = Sines::of(a);
     [[RADIUS, 0, 0], [0, k.cos, k.sin], [0, k.minus, k.cos]]
 }
 
 // R2(a): the rotation by a about the second axis.
-pub fn rotation2(t: &SineTable, a: i64) -> Matrix
-    requires { (t.now ≡ entries) × (nat_abs a ≤ 2 ^ 61) }
+pub fn rotation2(a: i64) -> Matrix
+    requires { nat_abs a ≤ 2 ^ 61 }
     ensures { (result ≡ rotation2 a) × Rotation result }
 {
-    let k = sines_of(t, a);
+    let k = Sines::of(a);
     [[k.cos, 0, k.minus], [0, RADIUS, 0], [k.sin, 0, k.cos]]
 }
 
 // R3(a): the rotation by a about the third axis.
-pub fn rotation3(t: &SineTable, a: i64) -> Matrix
-    requires { (t.now ≡ entries) × (nat_abs a ≤ 2 ^ 61) }
+pub fn rotation3(a: i64) -> Matrix
+    requires { nat_abs a ≤ 2 ^ 61 }
     ensures { (result ≡ rotation3 a) × Rotation result }
 {
-    let k = sines_of(t, a);
+    let k = Sines::of(a);
     [[k.cos, k.sin, 0], [k.minus, k.cos, 0], [0, 0, RADIUS]]
 }
 

@@ -1,5 +1,4 @@
 use mathlib.Core.Path.{refl}
-use mir.Facts.{to_z-of_z}
 use Rattle.exact.proofs.Machine.{held}
 use Rattle.rotation.specs.Rotation.{rotation3}
 use Rattle.rotation.specs.Length.{axis3}
@@ -8,8 +7,4 @@ use Rattle.rotation.proofs.rotation3.Goals as goal
 
 pub returns : goal.returns
 unfolding held rotation3
-returns c =
-    let s = c.before.before.before in
-    let k = c.before.before.sines_of-k in
-    let e = sines-held s.args.a _ _ _ (simp (to_z-of_z, s.ranges.a) at k.ensures) in
-    rw (e.0, e.1, e.2) (refl, axis3 s.args.a)
+returns c = let e = sines-held c.args.a c.ranges.a c.of-k.ensures in rw (e.0, e.1, e.2) (refl, axis3 c.args.a)
