@@ -1,6 +1,6 @@
 -- How far two editions can be apart, request 8's law of any two lists of terms: no further than the amplitudes by which the lists differ.
 use mathlib.Core.List.{List}
-use Prim.Native.Nat.{ℕ, ◌+◌, ◌≤◌}
+use Prim.Native.Nat.{ℕ, ◌≤◌}
 use native.Mathlib.Nat.{le_trans}
 use native.Mathlib.Omega.{arith}
 use lib.IntN.{ℤ, nat_abs, ◌+ℤ◌, ◌-ℤ◌}
@@ -9,7 +9,7 @@ use Rattle.exact.proofs.Differences.{split, zs}
 use Rattle.exact.proofs.Division.{Within}
 use Rattle.exact.proofs.Reduction.{short-way-le}
 use Rattle.series.specs.Term.{Term}
-use Rattle.series.specs.Sum.{table_sum, amplitudes}
+use Rattle.series.specs.Sum.{table_sum}
 use Rattle.series.specs.Compared.{dropped}
 use Rattle.series.proofs.Compared.{table-sums-apart}
 use Rattle.frame.specs.Nutation.{dpsi}

@@ -9,7 +9,6 @@ use Rattle.series.specs.Term.{Term}
 use Rattle.series.specs.Notation.{term, sine, none}
 use Rattle.series.specs.Notation as Notation
 use Rattle.series.specs.Compared.{same_angle, same_amplitude, counterpart, others, change, added, changes, restored}
-use Rattle.series.proofs.Sums.{nothing}
 use Rattle.sun.specs.Series.{short_terms, planets, full_terms}
 
 abbrev pub second : ℤ → Term

@@ -20,7 +20,7 @@ use Rattle.epoch.specs.declared.Epoch.{Epoch}
 use Rattle.arguments.specs.Argument.{arguments_by}
 use Rattle.arguments.specs.PrintedArguments.{rows, further_rows, arguments_of, full_arguments_of}
 use Rattle.series.specs.Sum.{table_sum, amplitudes}
-use Rattle.series.specs.Compared.{added, costs, dropped}
+use Rattle.series.specs.Compared.{added, costs}
 use Rattle.series.proofs.Compared.{added-costs}
 use Rattle.series.proofs.Front.{table-sum-front}
 use Rattle.series.proofs.Steady.{steady_sum, varying, amplitudes-split}

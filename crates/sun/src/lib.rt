@@ -1,5 +1,4 @@
 // The Sun by Newcomb's series: the equation of the centre, the apparent longitude and the direction; what its short edition leaves out.
-// Document 01, "The Sun"; document 02, requests 7 and 8.
 #![tactic(auto)]
 
 mod tables;
@@ -7,7 +6,7 @@ mod tables;
 ghost use Rattle.std.specs.Prelude.{◌≡◌, ◌+◌, ◌*◌, ◌≤◌, ◌<◌, ◌^◌, ℤ, pos, nat_abs, ◌+ℤ◌, ◌-ℤ◌};
 ghost use Rattle.exact.specs.Reduction.{turn, reduced};
 ghost use Rattle.secular.specs.Sizes.{most_millionths};
-ghost use Rattle.sine_table.specs.Table.{R, entries};
+ghost use Rattle.sine_table.specs.Table.{R};
 ghost use Rattle.sine.specs.Sine.{Sin};
 ghost use Rattle.sine.specs.SineContract.{circle_most};
 ghost use Rattle.rotation.specs.Length.{squared_length, growth};
@@ -23,23 +22,21 @@ ghost use Rattle.sun.specs.Direction.{direction};
 
 use epoch::Epoch;
 use rotation::Direction;
-use sine_table::SineTable;
 pub use tables::ABERRATION;
 
 // The apparent longitude by either edition, reduced, in units.
-#[derive(Clone, Copy)]
+#[derive(Clone, Copy, Debug, PartialEq, Eq)]
 pub struct Longitudes {
     pub short: u64,
     pub full: u64,
 }
 
 // The exact sum of the centre terms at q, before it is divided by R.
-fn centre_sum(t: &SineTable, arguments: &[i64], q: i64) -> i64
-    requires { (t.now ≡ entries) × IsArguments arguments.now × (nat_abs q ≤ most_millionths) }
+fn centre_sum(arguments: &[i64], q: i64) -> i64
+    requires { IsArguments arguments.now × (nat_abs q ≤ most_millionths) }
     ensures { (result ≡ total Sin arguments.now q centre) × (nat_abs result ≤ R * 2 ^ 27) }
 {
     series::sum(
-        t,
         &tables::CENTRE_VARYING,
         &tables::CENTRE_GROUPS,
         &tables::CENTRE_ROWS,
@@ -49,50 +46,44 @@ fn centre_sum(t: &SineTable, arguments: &[i64], q: i64) -> i64
 }
 
 // The equation of the centre at an epoch, from its arguments, in units.
-pub fn equation_of_centre(t: &SineTable, arguments: &[i64], e: Epoch) -> i64
-    requires { (t.now ≡ entries) × IsArguments arguments.now × InSpan e }
+pub fn equation_of_centre(arguments: &[i64], e: Epoch) -> i64
+    requires { IsArguments arguments.now × InSpan e }
     ensures { (result ≡ equation_of_centre arguments.now e.q) × (nat_abs result ≤ 2 ^ 27) }
 {
-    series::rounded(centre_sum(t, arguments, e.q))
+    series::rounded(centre_sum(arguments, e.q))
 }
 
-// The mean longitude with the equation of the centre alone, reduced: document 01's g, for the aberration of a star.
-pub fn centre_longitude(t: &SineTable, arguments: &[i64], e: Epoch) -> u64
-    requires { (t.now ≡ entries) × IsArguments arguments.now × InSpan e }
+// The mean longitude with the equation of the centre alone, reduced: for the aberration of a star.
+pub fn centre_longitude(arguments: &[i64], e: Epoch) -> u64
+    requires { IsArguments arguments.now × InSpan e }
     ensures { (result ≡ centre_longitude arguments.now e.q) × (result < turn) }
 {
-    exact::reduced_bounded(arguments[arguments::L] + equation_of_centre(t, arguments, e))
+    exact::reduced_bounded(arguments[arguments::L] + equation_of_centre(arguments, e))
 }
 
 // The exact sum of the long period terms of the short edition, of the Moon's and of those of Venus.
-fn periodic_sum(t: &SineTable, arguments: &[i64]) -> i64
-    requires { (t.now ≡ entries) × IsArguments arguments.now }
+fn periodic_sum(arguments: &[i64]) -> i64
+    requires { IsArguments arguments.now }
     ensures { ((q : ℤ) → result ≡ total Sin arguments.now q periodic) × (nat_abs result ≤ R * 2 ^ 27) }
 {
-    series::steady_sum(
-        t,
-        &tables::PERIODIC_GROUPS,
-        &tables::PERIODIC_ROWS,
-        arguments,
-    )
+    series::steady_sum(&tables::PERIODIC_GROUPS, &tables::PERIODIC_ROWS, arguments)
 }
 
 // The exact sum of the terms of the short edition at an epoch.
-fn short_sum(t: &SineTable, arguments: &[i64; arguments::COUNT], e: Epoch) -> i64
-    requires { (t.now ≡ entries) × (arguments.now ≡ arguments_of e) × InSpan e }
+fn short_sum(arguments: &[i64; arguments::COUNT], e: Epoch) -> i64
+    requires { (arguments.now ≡ arguments_of e) × InSpan e }
     ensures { (result ≡ total Sin (arguments_of e) e.q short_terms) × (nat_abs result ≤ R * 2 ^ 28) }
 {
-    centre_sum(t, arguments, e.q) + periodic_sum(t, arguments)
+    centre_sum(arguments, e.q) + periodic_sum(arguments)
 }
 
 // The exact sum of what the full edition adds to the short one at an epoch, from the arguments of both.
-fn further_sum(t: &SineTable, arguments: &[i64; arguments::COUNT], e: Epoch) -> i64
-    requires { (t.now ≡ entries) × (arguments.now ≡ arguments_of e) × InSpan e }
+fn further_sum(arguments: &[i64; arguments::COUNT], e: Epoch) -> i64
+    requires { (arguments.now ≡ arguments_of e) × InSpan e }
     ensures { (result ≡ total Sin (full_arguments_of e) e.q further) × (nat_abs result ≤ R * 2 ^ 27) }
 {
     let all = arguments::full_arguments_of(arguments, e);
     series::sum(
-        t,
         &tables::FURTHER_VARYING,
         &tables::FURTHER_GROUPS,
         &tables::FURTHER_ROWS,
@@ -102,23 +93,25 @@ fn further_sum(t: &SineTable, arguments: &[i64; arguments::COUNT], e: Epoch) -> 
 }
 
 // The exact sum of the terms of the full edition, from that of the short one.
-fn full_sum(t: &SineTable, short: i64, arguments: &[i64; arguments::COUNT], e: Epoch) -> i64
-    requires { ((t.now ≡ entries) × (arguments.now ≡ arguments_of e) × InSpan e) × ((short ≡ total Sin (arguments_of e) e.q short_terms) × (nat_abs short ≤ R * 2 ^ 28)) }
+fn full_sum(short: i64, arguments: &[i64; arguments::COUNT], e: Epoch) -> i64
+    requires { ((arguments.now ≡ arguments_of e) × InSpan e) × ((short ≡ total Sin (arguments_of e) e.q short_terms) × (nat_abs short ≤ R * 2 ^ 28)) }
     ensures { (result ≡ total Sin (full_arguments_of e) e.q full_terms) × (nat_abs result ≤ R * 2 ^ 29) }
 {
-    short + further_sum(t, arguments, e)
+    short + further_sum(arguments, e)
 }
 
-// Document 01's first sum, by an edition at an epoch, in units: all its terms are rounded together.
-fn first_sum(t: &SineTable, edition: i64, arguments: &[i64; arguments::COUNT], e: Epoch) -> i64
-    requires { (t.now ≡ entries) × (arguments.now ≡ arguments_of e) × InSpan e }
+// What the terms of an edition add to the mean longitude at an epoch, in units: all of them are rounded together.
+// Kept: the edition is a number and no enum, since the function answers for every number.
+fn first_sum(edition: i64, arguments: &[i64; arguments::COUNT], e: Epoch) -> i64
+    requires { (arguments.now ≡ arguments_of e) × InSpan e }
     ensures { (result ≡ first_sum edition e) × (nat_abs result ≤ 2 ^ 29) }
 {
-    let short = short_sum(t, arguments, e);
+    let short = short_sum(arguments, e);
     if edition == 1 {
-        return series::rounded(short);
+        series::rounded(short)
+    } else {
+        series::rounded(full_sum(short, arguments, e))
     }
-    series::rounded(full_sum(t, short, arguments, e))
 }
 
 // The longitude of a first sum, reduced, from the arguments of the epoch, Δψ and the aberration, in units.
@@ -137,18 +130,17 @@ fn longitude_by(
 // The Sun's apparent longitude s by an edition, 1 short or else full, at an epoch, reduced, from its arguments, Δψ and the aberration, in
 // units.
 pub fn apparent_longitude(
-    t: &SineTable,
     edition: i64,
     arguments: &[i64; arguments::COUNT],
     e: Epoch,
     dpsi: i64,
     aberration: i64,
 ) -> u64
-    requires { ((t.now ≡ entries) × (arguments.now ≡ arguments_of e) × InSpan e) × ((dpsi ≡ Nutation.dpsi arguments.now e.q) × (nat_abs dpsi ≤ 2 ^ 20)) × (nat_abs aberration ≤ 2 ^ 20) }
+    requires { ((arguments.now ≡ arguments_of e) × InSpan e) × ((dpsi ≡ Nutation.dpsi arguments.now e.q) × (nat_abs dpsi ≤ 2 ^ 20)) × (nat_abs aberration ≤ 2 ^ 20) }
     ensures { IsLongitude edition aberration e result }
 {
     longitude_by(
-        first_sum(t, edition, arguments, e),
+        first_sum(edition, arguments, e),
         arguments,
         dpsi,
         aberration,
@@ -157,17 +149,16 @@ pub fn apparent_longitude(
 
 // The same by both editions, the terms that they share summed once.
 pub fn both_longitudes(
-    t: &SineTable,
     arguments: &[i64; arguments::COUNT],
     e: Epoch,
     dpsi: i64,
     aberration: i64,
 ) -> Longitudes
-    requires { ((t.now ≡ entries) × (arguments.now ≡ arguments_of e) × InSpan e) × ((dpsi ≡ Nutation.dpsi arguments.now e.q) × (nat_abs dpsi ≤ 2 ^ 20)) × (nat_abs aberration ≤ 2 ^ 20) }
+    requires { ((arguments.now ≡ arguments_of e) × InSpan e) × ((dpsi ≡ Nutation.dpsi arguments.now e.q) × (nat_abs dpsi ≤ 2 ^ 20)) × (nat_abs aberration ≤ 2 ^ 20) }
     ensures { IsLongitude (pos 1) aberration e result.short × IsLongitude (pos 2) aberration e result.full }
 {
-    let short = short_sum(t, arguments, e);
-    let full = full_sum(t, short, arguments, e);
+    let short = short_sum(arguments, e);
+    let full = full_sum(short, arguments, e);
     Longitudes {
         short: longitude_by(series::rounded(short), arguments, dpsi, aberration),
         full: longitude_by(series::rounded(full), arguments, dpsi, aberration),
@@ -184,10 +175,10 @@ pub fn short_cost(q: i64) -> u64
 
 // The Sun's direction in the frame of the equator: (Cos s, Sin s, 0) rotated by R1(−ε), where ε is
 // the true obliquity.
-pub fn direction(t: &SineTable, s: u64, epsilon: i64) -> Direction
-    requires { (t.now ≡ entries) × (s < turn) × (nat_abs epsilon < 2 ^ 40) }
+pub fn direction(s: u64, epsilon: i64) -> Direction
+    requires { (s < turn) × (nat_abs epsilon < 2 ^ 40) }
     ensures { (result ≡ direction s epsilon) × (squared_length result ≤ circle_most + growth) }
 {
-    let d = [sine::cos(t, s), sine::sin(t, s), 0];
-    rotation::rotated(rotation::rotation1(t, -epsilon), d)
+    let d = [sine::cos(s), sine::sin(s), 0];
+    rotation::rotated(rotation::rotation1(-epsilon), d)
 }

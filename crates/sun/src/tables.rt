@@ -11,23 +11,23 @@ pub const ABERRATION: i64 = 204_960;
 const Q: i64 = 3_240_000_000;
 
 // The centre terms whose amplitudes vary: c0, c1, c2, phase, and the multiple and index of the argument.
-pub const CENTRE_VARYING: [[i64; 6]; 2] = [
+pub static CENTRE_VARYING: [[i64; 6]; 2] = [
     [69_100_571, -172_400, -518, 0, 1, MS as i64], // 1.9194603° − 0.0047889° T − 0.0000144° T², Ms
     [723_380, -3_611, 0, 0, 2, MS as i64], // 0.0200939° − 0.0001003° T, 2Ms
 ];
 
 // The others: the indices of a group's arguments and how many rows it has; amplitude, phase and multiples of each row.
-pub const CENTRE_GROUPS: [[usize; 4]; 1] = [[MS, L, L, 2]];
+pub static CENTRE_GROUPS: [[usize; 4]; 1] = [[MS, L, L, 2]];
 
-pub const CENTRE_ROWS: [[i64; 5]; 2] = [
+pub static CENTRE_ROWS: [[i64; 5]; 2] = [
     [10_541, 0, 3, 0, 0], // 0.0002928°, 3Ms
     [180, 0, 4, 0, 0], // 0.0000050°, 4Ms
 ];
 
 // The long period terms, the Moon's and Venus's.
-pub const PERIODIC_GROUPS: [[usize; 4]; 3] = [[P1, P2, P3, 3], [D, MM, MS, 8], [MV, MS, L, 12]];
+pub static PERIODIC_GROUPS: [[usize; 4]; 3] = [[P1, P2, P3, 3], [D, MM, MS, 8], [MV, MS, L, 12]];
 
-pub const PERIODIC_ROWS: [[i64; 5]; 23] = [
+pub static PERIODIC_ROWS: [[i64; 5]; 23] = [
     [64_000, 0, 1, 0, 0], // 6.40″, 231.19° + 20.20° T
     [18_820, 0, 0, 1, 0], // 1.882″, 57.24° + 150.27° T
     [2_020, 0, 0, 0, 1], // 0.202″, 315.60° + 893.30° T
@@ -54,19 +54,19 @@ pub const PERIODIC_ROWS: [[i64; 5]; 23] = [
 ];
 
 // What the full edition adds: of 1.882″ − 0.016″ T the part that varies.
-pub const FURTHER_VARYING: [[i64; 6]; 1] = [
+pub static FURTHER_VARYING: [[i64; 6]; 1] = [
     [0, -160, 0, 0, 1, P2 as i64], // −0.016″ T, 57.24° + 150.27° T
 ];
 
 // A fourth long period term, and the terms of Mars, Jupiter and Saturn.
-pub const FURTHER_GROUPS: [[usize; 4]; 4] = [
+pub static FURTHER_GROUPS: [[usize; 4]; 4] = [
     [P4, L, L, 1],
     [MARS, MS, L, 11],
     [JUPITER, MS, L, 8],
     [SATURN, MS, L, 4],
 ];
 
-pub const FURTHER_ROWS: [[i64; 5]; 24] = [
+pub static FURTHER_ROWS: [[i64; 5]; 24] = [
     [2_660, 0, 1, 0, 0], // 0.266″, 31.8° + 119.0° T
     [2_730, 7_837_200_000 + Q, -1, 1, 0], // 0.273″, 217.700° − Mars + Ms
     [20_430, 12_379_968_000 + Q, -2, 2, 0], // 2.043″, 343.888° − 2 Mars + 2Ms

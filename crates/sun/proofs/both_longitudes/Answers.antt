@@ -27,7 +27,7 @@ fit c = (ok-fits c.short_sum-short.result c.short_sum-short.type_inv, ok-fits c.
 -- ---- the longitude of an edition whose sum is rounded
 module _ (s : Start) where
   are : IsArguments s.args.arguments.now
-  are = subst⁻¹ IsArguments s.requires.0.1 (are-arguments s.args.e)
+  are = subst⁻¹ IsArguments s.requires.0.0 (are-arguments s.args.e)
 
   edition-is : (edition x : ℤ) (r : ℕ) → x ≡ first_sum edition s.args.e
       → r ≡ reduced (mean_longitude s.args.arguments.now +ℤ x +ℤ s.args.dpsi -ℤ s.args.aberration) → r < turn
@@ -36,10 +36,10 @@ module _ (s : Start) where
       let a = s.args in
       let k = a.aberration in
       let e = a.e in
-      is-longitude edition k e r s.requires.0.2
+      is-longitude edition k e r s.requires.0.1
       (is
       ∙ ap₂ (λ (x n : ℤ). reduced (mean_longitude a.arguments.now +ℤ x +ℤ n -ℤ k)) first s.requires.1.0
-      ∙ ap (λ (l : List ℤ). reduced (mean_longitude l +ℤ first_sum edition e +ℤ dpsi l e.q -ℤ k)) s.requires.0.1)
+      ∙ ap (λ (l : List ℤ). reduced (mean_longitude l +ℤ first_sum edition e +ℤ dpsi l e.q -ℤ k)) s.requires.0.0)
       l
 
 pub full_sum-full-requires : goal.full_sum-full-requires

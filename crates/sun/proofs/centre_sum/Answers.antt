@@ -21,8 +21,8 @@ use Rattle.sun.proofs.centre_sum.Goals as goal
 pub sum-requires : goal.sum-requires
 unfolding weights most kept steady_term steady_terms varying_term counts
 sum-requires c =
-    let a = c.requires.1 in
-    (varying-ready argument_count c.requires.0 a.reduced a.all (simp (to_z-of_z, c.ranges.q) c.requires.2) tt, steady-ready argument_count c.requires.0 a.reduced a.all tt)
+    let a = c.requires.0 in
+    (varying-ready argument_count a.reduced a.all (simp (to_z-of_z, c.ranges.q) c.requires.1) tt, steady-ready argument_count a.reduced a.all tt)
 
 pub returns : goal.returns
 unfolding weights most kept steady_term steady_terms varying_term nearest_div floor_div

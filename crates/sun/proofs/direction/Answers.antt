@@ -22,12 +22,12 @@ module _ (c : After-sin) where
   fits = (ok-fits _ c.cos.type_inv, ok-fits _ c.sin.type_inv)
 
   short : squared_length (c.cos.result ∷ c.sin.result ∷ pos 0 ∷ []) ≤ circle_most
-  short = plane-xy c.args.s c.requires.1 c.cos.ensures.0 c.sin.ensures.value
+  short = plane-xy c.args.s c.requires.0 c.cos.ensures.0 c.sin.ensures.value
 
 pub rotation1-requires : goal.rotation1-requires
 rotation1-requires c =
     let n = negated c.args.epsilon (omega arith) in
-    simp (to_z-of_z, c.ranges.epsilon, n.0) (c.requires.0, omega (arith, n.2))
+    simp (to_z-of_z, c.ranges.epsilon, n.0) (omega (arith, n.2))
 
 pub rotated-requires : goal.rotated-requires
 rotated-requires c = let d = (goal.at.rotated-requires c).After-sin in simp (to_z-of_z, (fits d).0, (fits d).1) (c.rotation1.ensures.1, omega (arith, short d))

@@ -26,12 +26,12 @@ unfolding weights most kept steady_term steady_terms varying_term counts
 sum-requires c =
     let p = c.requires in
     let r = c.full_arguments_of-all.ensures.1 in
-    (varying-ready full_count p.0 r.reduced r.all (simp (to_z-of_z, q-fits p.2) (q-size p.2)) tt, steady-ready full_count p.0 r.reduced r.all tt)
+    (varying-ready full_count r.reduced r.all (simp (to_z-of_z, q-fits p.1) (q-size p.1)) tt, steady-ready full_count r.reduced r.all tt)
 
 module _ (c : After-sum) where
   sum_is : c.sum.result ≡ total Sin c.full_arguments_of-all.result c.args.e.q further
   unfolding kept steady_term steady_terms varying_term nearest_div floor_div
-  sum_is = let e = simp (to_z-of_z, q-fits c.requires.2) at c.sum.ensures.0 in e ∙ ap (total Sin c.full_arguments_of-all.result c.args.e.q) refl
+  sum_is = let e = simp (to_z-of_z, q-fits c.requires.1) at c.sum.ensures.0 in e ∙ ap (total Sin c.full_arguments_of-all.result c.args.e.q) refl
 
   sum-le : nat_abs c.sum.result ≤ R * 2 ^ 27
   unfolding weights most kept steady_term steady_terms varying_term

@@ -20,7 +20,7 @@ use Rattle.sun.proofs.periodic_sum.Goals as goal
 
 pub steady_sum-requires : goal.steady_sum-requires
 unfolding weights most kept steady_term steady_terms counts
-steady_sum-requires c = steady-ready argument_count c.requires.0 c.requires.1.reduced c.requires.1.all tt
+steady_sum-requires c = steady-ready argument_count c.requires.reduced c.requires.all tt
 
 pub returns : goal.returns
 unfolding weights most kept steady_term steady_terms nearest_div floor_div

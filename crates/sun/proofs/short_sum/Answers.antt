@@ -25,10 +25,10 @@ are : (l : List ℤ) (e : Epoch) → l ≡ arguments_of e → IsArguments l
 are l e is = subst⁻¹ IsArguments is (are-arguments e)
 
 pub centre_sum-requires : goal.centre_sum-requires
-centre_sum-requires c = simp (to_z-of_z, q-fits c.requires.2) (c.requires.0, are _ _ c.requires.1, q-size c.requires.2)
+centre_sum-requires c = simp (to_z-of_z, q-fits c.requires.1) (are _ _ c.requires.0, q-size c.requires.1)
 
 pub periodic_sum-requires : goal.periodic_sum-requires
-periodic_sum-requires c = (c.requires.0, are _ _ c.requires.1)
+periodic_sum-requires c = are _ _ c.requires.0
 
 module _ (c : After-periodic_sum) where
   abbrev e : Epoch
@@ -48,9 +48,9 @@ module _ (c : After-periodic_sum) where
 
   sum_is : a +ℤ b ≡ total Sin (arguments_of e) e.q short_terms
   sum_is =
-      let is = simp (to_z-of_z, q-fits c.requires.2) at c.centre_sum.ensures.0 in
+      let is = simp (to_z-of_z, q-fits c.requires.1) at c.centre_sum.ensures.0 in
       ap₂ ◌+ℤ◌ is (c.periodic_sum.ensures.0 e.q) ∙ total-append Sin c.args.arguments.now e.q centre periodic
-      ∙ ap (λ (l : List ℤ). total Sin l e.q short_terms) c.requires.1
+      ∙ ap (λ (l : List ℤ). total Sin l e.q short_terms) c.requires.0
 
 pub overflow_add-result : goal.overflow_add-result
 overflow_add-result c = let d = (goal.at.overflow_add-result c).After-periodic_sum in simp (to_z-of_z, (fit d).0, (fit d).1) (both d).0
