@@ -1,34 +1,23 @@
 -- The laws of what is appended to a buffer, and of a number in plain decimal.
-use mathlib.Core.Path.{◌≡◌, sym, ap, ◌∙◌}
+use mathlib.Core.Path.{◌≡◌, ap, ◌∙◌}
 use mathlib.Core.List.{List, [], ◌∷◌, ◌++◌, append_assoc, map, map-append}
 use Prim.Native.Nat.{ℕ, suc, ◌+◌, ◌-◌, ◌/◌, ◌%◌, ◌^◌, ◌<◌, ◌≤◌}
 use native.Mathlib.Omega.{arith}
 use native.Mathlib.Nat.{mod-eq_of_lt}
 use lib.ListN.{length, take, drop, set, length-append, length-map}
-use lib.Seq.{take_at, take-add, set_split, drop_at, length-take-le}
-use borrow.Rule.Slice.PartMut.{put_mid}
+use lib.Seq.{set_split, drop_at, length-take-le}
 use Rattle.digits.specs.Text.{decimal}
 use Rattle.digits.proofs.Decimal.{decimal-one, decimal-more, decimal-some, length-decimal}
-use Rattle.lines.specs.Appending.{decimal_text, Appends}
+use Rattle.lines.specs.Appending.{decimal_text, written, Appends}
+use Rattle.lines.specs.declared.output.Output.{Output}
 
 -- one text behind the other
-pub append-both : {l x y : List ℕ} {place k m : ℕ} {t u : List ℕ} → Appends l place t x k → Appends x k u y m → Appends l place (t ++ u) y m
-append-both {l} {x} {y} {place} {k} {m} {t} {u} a b = record {
+pub append-both : {x y z : Output} {t u : List ℕ} → Appends x t y → Appends y u z → Appends x (t ++ u) z
+append-both {x} {y} {z} {t} {u} a b = record {
   ends = let e = a.ends in let f = b.ends in simp length-append (omega arith);
-  holds = b.holds ∙ ap (λ (p : List ℕ). p ++ u) a.holds ∙ append_assoc (take place l) t u;
+  holds = b.holds ∙ ap (λ (p : List ℕ). p ++ u) a.holds ∙ append_assoc (written x) t u;
+  room = b.room ∙ a.room;
 }
-
--- a part of the buffer was lent from a place on, and came back with a text at its front
-pub append-part : (x t rest y : List ℕ) (place n k : ℕ) → place ≤ length x → k ≡ length t → y ≡ t ++ rest → Appends x place t (put_mid place n x y) (place + k)
-append-part x t rest y place n k h e g =
-    let p = length-take-le place x h in
-    let z = drop n (drop place x) in
-    record {
-      ends = omega arith;
-      holds =
-          take-add place k (put_mid place n x y)
-          ∙ rw (take_at (take place x) (y ++ z) place p, drop_at (take place x) (y ++ z) place p, g, append_assoc t rest z, take_at t (rest ++ z) k (sym e));
-    }
 
 pub decimal-text-one : (n : ℕ) → n < 10 → decimal_text n ≡ (48 + n) ∷ []
 unfolding decimal_text

@@ -1,22 +1,21 @@
 // The bytes of a line: where it ends, its numbers, and the numbers and words of an answer.
 #![tactic(auto)]
 
-ghost use Rattle.std.specs.Prelude.{◌≡◌, ◌+◌, ◌^◌, ◌<◌, ◌≤◌, length, IfSome};
+ghost use Rattle.std.specs.Prelude.{◌≡◌, ◌^◌, ◌<◌, ◌≤◌, length, IfSome};
 ghost use Rattle.arrayvec.specs.ArrayVec.{array_vec_len};
 ghost use Rattle.lines.specs.Bytes.{index_of};
 ghost use Rattle.lines.specs.Numerals.{digits_of, numeral_of, row_length, numbers_of};
-ghost use Rattle.lines.specs.Appending.{decimal_text, Appends};
+
+mod output;
 
 use arrayvec::ArrayVec;
+pub use output::Output;
 
 // The most numbers that a line of any program has: a pointing's eleven fields, its horizontal angle and the edition.
 pub const ROW: usize = 13;
 
 // The numbers of a line. A line that is not numbers with one space between has none.
 pub type Row = ArrayVec<i64, ROW>;
-
-// The most digits of a number of 64 bits.
-const DIGITS: usize = 20;
 
 // The index of the first `b` in `s`, or its length where there is none.
 pub fn find(s: &[u8], b: u8) -> usize
@@ -77,32 +76,4 @@ pub fn numbers_of(s: &[u8], most: usize) -> Row
         };
         rest = next;
     }
-}
-
-// Appends bytes, and returns where they end.
-pub fn append_bytes(out: &mut [u8], place: usize, text: &[u8]) -> usize
-    requires { place + length text.now ≤ length out.old }
-    ensures { Appends out.old place text.now out.new result }
-{
-    let n = text.len();
-    out[place..place + n].copy_from_slice(text);
-    place + n
-}
-
-// Appends a number in plain decimal, and returns where it ends. The digits are written into an array first, from the last one on.
-pub fn append_decimal(out: &mut [u8], place: usize, n: u64) -> usize
-    requires { place + length (decimal_text n) ≤ length out.old }
-    ensures { Appends out.old place (decimal_text n) out.new result }
-{
-    let mut text = [0u8; DIGITS];
-    let mut from = DIGITS;
-    let mut m = n;
-    while 10 <= m {
-        from -= 1;
-        text[from] = digits::last_digit(m);
-        m /= 10;
-    }
-    from -= 1;
-    text[from] = digits::last_digit(m);
-    append_bytes(out, place, &text[from..])
 }

@@ -6,7 +6,7 @@ use lib.ListN.{length, take, drop, set, length-set}
 use Rattle.lines.proofs.Parts.{tail-part}
 use Rattle.lines.specs.Appending.{decimal_text}
 use Rattle.lines.proofs.Appending.{length_more, some-digit, digit-before, first-digit, at-most-twenty}
-use Rattle.lines.proofs.append_decimal.Goals as goal
+use Rattle.lines.proofs.output.Output.append_decimal.Goals as goal
 
 pub loop-m-init : goal.loop-m-init
 loop-m-init c = (at-most-twenty c.args.n c.ranges.n.fits, omega arith, refl, sym (append-nil (decimal_text c.args.n)))
@@ -39,12 +39,12 @@ part n m from d text h i l e g k =
     ap (λ (j : ℕ). take (j - (from - 1)) (drop (from - 1) stored)) (sym full) ∙ tail-part (from - 1) stored
     ∙ sym (e ∙ first-digit text from m d g (omega (arith, h)) (omega (arith, i, l)) k)
 
-pub append_bytes-requires : goal.append_bytes-requires
-append_bytes-requires c =
+pub append-requires : goal.append-requires
+append-requires c =
     let i = c.loop-m.invariant in
     rw (part c.args.n c.loop-m.m c.loop-m.from c.last_digit-2.result c.loop-m.text i.0 i.1 i.2 i.3 c.last_digit-2.ensures c.loop-m-test.false) c.requires
 
 pub returns : goal.returns
 returns c =
     let i = c.loop-m.invariant in
-    rw (part c.args.n c.loop-m.m c.loop-m.from c.last_digit-2.result c.loop-m.text i.0 i.1 i.2 i.3 c.last_digit-2.ensures c.loop-m-test.false) at c.append_bytes.ensures
+    rw (part c.args.n c.loop-m.m c.loop-m.from c.last_digit-2.result c.loop-m.text i.0 i.1 i.2 i.3 c.last_digit-2.ensures c.loop-m-test.false) at c.append.ensures

@@ -4,7 +4,7 @@ use mathlib.Core.List.{◌++◌}
 use Prim.Native.Nat.{◌≤◌}
 use lib.ListN.{length, drop}
 use Rattle.lines.specs.Appending.{decimal_text}
-use Rattle.lines.proofs.append_decimal.Given as goal
+use Rattle.lines.proofs.output.Output.append_decimal.Given as goal
 
 abbrev pub invariant-loop-m : goal.invariant-loop-m
 invariant-loop-m l =
