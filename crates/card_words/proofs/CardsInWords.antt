@@ -2,7 +2,8 @@
 -- the words of that card.
 use mathlib.Core.Path.{◌≡◌, refl, sym, ap, subst, ◌∙◌}
 use mathlib.Core.Bool.{Bool, true, false, ◌&&◌}
-use mathlib.Core.List.{List, [], ◌∷◌, ◌++◌, map, append_assoc}
+use mathlib.Core.List.{List, [], ◌∷◌, ◌++◌, append_assoc}
+use Rattle.std.specs.Prelude.{Option, Some, None}
 use Prim.Native.Nat.{ℕ, zero, suc, ◌+◌, ◌*◌, ◌≤◌}
 use native.Mathlib.Omega.{arith}
 use lib.Dec.{eqb}
@@ -14,15 +15,13 @@ use Rattle.exact.specs.Range.{between, same}
 use Rattle.exact.specs.Nth.{nth}
 use Rattle.exact.proofs.Choice.{same_true}
 use Rattle.exact.proofs.Machine.{between-nat, and-true}
-use Rattle.card.specs.Fields.{number_in, field_count, is_field, slot_index, slot, field_at, field_of, Full}
+use Rattle.card.specs.Fields.{number_in, field_count, is_field, slot_index, field_at, field_of, Full, Before}
 use Rattle.card.specs.Calls.{largest_heard, can_be_heard}
 use Rattle.card.specs.Confirmed.{fields_from, fields_of}
-use Rattle.card_words.specs.Words.{word_count, state_number, field_words, words_of, latest_field, latest_before, latest_words, card_words, is_field_words, field_from, is_latest_words, latest_from, are_fields, slots_from, latest_place, is_card, card_of}
+use Rattle.card_words.specs.Words.{word_count, state_number, field_words, words_of, latest_field, latest_before, latest_words, card_words, is_field_words, field_from, is_latest_words, latest_from, are_fields, fields_in, latest_place, is_card, card_of}
 use Rattle.card.specs.declared.Field.{Field}
 use Rattle.card.specs.declared.Field.TheVariants.{Empty, Heard, Read, Confirmed}
-use Rattle.card.specs.declared.Slot.{Slot}
 use Rattle.card.specs.declared.Latest.{Latest}
-use Rattle.card.specs.declared.Latest.TheVariants.{NothingToUndo, Before}
 use Rattle.card.specs.declared.Card.{Card}
 use Rattle.card.proofs.FieldNumbers.{field_found}
 use Rattle.card_words.proofs.CardWords.{length_fields, length-words}
@@ -55,13 +54,13 @@ unfolding between
 not-zero f true i e = let z = ap is_field (same_true f (pos 0) e) in clash (cc)
 not-zero f false i e = refl
 
-is-latest-words : (l : Latest) → KeptSmall l → is_latest_words (latest_field l) (state_number (latest_before l)) (number_in (latest_before l)) ≡ true
-is-latest-words NothingToUndo h = refl
-is-latest-words (Before f v) h = let n = not-zero f (same f (pos 0)) h.0 refl in rw (n, h.0) (is-field-words v h.1)
+is-latest-words : (l : Option Latest) → KeptSmall l → is_latest_words (latest_field l) (state_number (latest_before l)) (number_in (latest_before l)) ≡ true
+is-latest-words None h = refl
+is-latest-words (Some l) h = let n = not-zero l.field (same l.field (pos 0)) h.0 refl in rw (n, h.0) (is-field-words l.before h.1)
 
-latest-back : (l : Latest) → KeptSmall l → latest_from (latest_field l) (state_number (latest_before l)) (number_in (latest_before l)) ≡ l
-latest-back NothingToUndo h = refl
-latest-back (Before f v) h = let n = not-zero f (same f (pos 0)) h.0 refl in rw n (ap (Before f) (field_back v))
+latest-back : (l : Option Latest) → KeptSmall l → latest_from (latest_field l) (state_number (latest_before l)) (number_in (latest_before l)) ≡ l
+latest-back None h = refl
+latest-back (Some l) h = let n = not-zero l.field (same l.field (pos 0)) h.0 refl in rw n (ap (Before l.field) (field_back l.before))
 
 -- ---- fields, behind words of which there are two for each of the first i fields
 abbrev AllSmall : List Field → Type 0
@@ -88,15 +87,15 @@ module _ (rest : List ℤ) where
       (ap (λ ws. are_fields ws (suc i) (length vs)) (sym (append_assoc front (field_words v) more))
       ∙ are-fields (front ++ field_words v) vs (suc i) (simp length-append (omega arith)) h.1)
 
-  slots-back : (front : List ℤ) (vs : List Field) (i : ℕ) → length front ≡ 2 * i → slots_from (front ++ (words_of vs ++ rest)) i (length vs) ≡ map slot vs
-  unfolding slots_from words_of
-  slots-back front [] i l = refl
-  slots-back front (v ∷ vs) i l =
+  fields-back : (front : List ℤ) (vs : List Field) (i : ℕ) → length front ≡ 2 * i → fields_in (front ++ (words_of vs ++ rest)) i (length vs) ≡ vs
+  unfolding fields_in words_of
+  fields-back front [] i l = refl
+  fields-back front (v ∷ vs) i l =
       let more = words_of vs ++ rest in
       rw (first_word front v more i l, second_word front v more i l, field_back v)
-      (ap (λ s. slot v ∷ s)
-      (ap (λ ws. slots_from ws (suc i) (length vs)) (sym (append_assoc front (field_words v) more))
-      ∙ slots-back (front ++ field_words v) vs (suc i) (simp length-append (omega arith))))
+      (ap (λ vs. v ∷ vs)
+      (ap (λ ws. fields_in ws (suc i) (length vs)) (sym (append_assoc front (field_words v) more))
+      ∙ fields-back (front ++ field_words v) vs (suc i) (simp length-append (omega arith))))
 
 -- ---- the fields of a card, in a list
 fields-small : (c : Card) (i k : ℕ) → ((f : ℤ) → Small (field_of c f)) → i + k ≤ field_count → AllSmall (fields_from c i k)
@@ -108,11 +107,11 @@ fields-small c i (suc k) small h =
     let at : slot_index f ≡ i = omega arith in
     (subst Small (sym (field_found f is c) ∙ ap (field_at c) at) (small f), fields-small c (suc i) k small (omega arith))
 
-slots-listed : (c : Card) (i k : ℕ) → i + k ≤ length c.slots → map slot (fields_from c i k) ≡ take k (drop i c.slots)
+fields-listed : (c : Card) (i k : ℕ) → i + k ≤ length c.fields → fields_from c i k ≡ take k (drop i c.fields)
 unfolding fields_from
-slots-listed c i zero h = refl
-slots-listed c i (suc k) h =
-    rw (drop-cons c.slots i (slot Empty) (omega arith)) (ap (λ s. slot (field_at c i) ∷ s) (slots-listed c (suc i) k (omega arith)))
+fields-listed c i zero h = refl
+fields-listed c i (suc k) h =
+    rw (drop-cons c.fields i Empty (omega arith)) (ap (λ vs. field_at c i ∷ vs) (fields-listed c (suc i) k (omega arith)))
 
 -- ---- from a card to its words and back
 module _ (c : Card) where
@@ -136,13 +135,13 @@ module _ (c : Card) where
 
     pub card-back : card_of (card_words c) ≡ c
     card-back =
-        let s = slots-back (latest_words c.latest) [] (fields_of c) 0 refl in
-        let slots : slots_from (card_words c) 0 field_count ≡ c.slots =
-        ap (slots_from (card_words c) 0) (sym (length_fields c 0 field_count))
-        ∙ s ∙ slots-listed c 0 field_count (omega arith) ∙ take_all field_count c.slots (omega arith) in
+        let s = fields-back (latest_words c.latest) [] (fields_of c) 0 refl in
+        let fields : fields_in (card_words c) 0 field_count ≡ c.fields =
+        ap (fields_in (card_words c) 0) (sym (length_fields c 0 field_count))
+        ∙ s ∙ fields-listed c 0 field_count (omega arith) ∙ take_all field_count c.fields (omega arith) in
         let latest : (card_of (card_words c)).latest ≡ c.latest =
         (rw (latest-word 0, latest-word 1, latest-word 2) (latest-back c.latest small.1)) in
-        λ j. record { slots = slots j; latest = latest j }
+        λ j. record { fields = fields j; latest = latest j }
 
 -- ---- from words that are a card to that card and back
 by_number : (n : ℕ) (z : ℤ) → 1 ≤ n → n ≤ 3 → field_words (field_from (pos n) z) ≡ pos n ∷ z ∷ []
@@ -175,8 +174,8 @@ latest-words f s z false e h =
 
 module _ (ws : List ℤ) where
   fields-words : (i k : ℕ) → 2 * (i + k) ≤ length ws → are_fields ws i k ≡ true
-      → words_of (map (λ (s : Slot). s.field) (slots_from ws i k)) ≡ take (2 * k) (drop (2 * i) ws)
-  unfolding are_fields slots_from words_of
+      → words_of (fields_in ws i k) ≡ take (2 * k) (drop (2 * i) ws)
+  unfolding are_fields fields_in words_of
   fields-words i zero h a = refl
   fields-words i (suc k) h a =
       let t = and-true (is_field_words (nth ws (2 * i)) (nth ws (2 * i + 1))) (are_fields ws (suc i) k) a in
@@ -190,7 +189,7 @@ module _ (ws : List ℤ) where
       ∙ ap (λ (j : ℕ). s ∷ drop j ws) m
       ∙ ap (λ l. s ∷ l) (drop-cons ws (2 * i + 1) (pos 0) (omega arith))
       ∙ ap (λ (j : ℕ). s ∷ z ∷ drop j ws) n in
-      ap (λ l. l ++ words_of (map (λ (s : Slot). s.field) (slots_from ws (suc i) k))) (field-words s z t.0)
+      ap (λ l. l ++ words_of (fields_in ws (suc i) k)) (field-words s z t.0)
       ∙ ap (λ l. s ∷ z ∷ l) (fields-words (suc i) k (omega arith) t.1)
       ∙ sym (ap (λ (j : ℕ). take j (drop (2 * i) ws)) q ∙ ap (take (suc (suc (2 * k)))) two)
 
@@ -202,7 +201,7 @@ module _ (ws : List ℤ) where
       ∙ ap (λ r. nth ws 22 ∷ nth ws 23 ∷ nth ws 24 ∷ r) (drop_of_length-le ws {i = 25} (omega arith))
 
   pub words_back : is_card ws ≡ true → card_words (card_of ws) ≡ ws
-  unfolding fields_from slots_from
+  unfolding fields_from fields_in
   words_back e =
       let t = and-true (eqb (length ws) word_count) _ e in
       let l = eqb-true (length ws) word_count t.0 in
