@@ -1,9 +1,10 @@
 -- Document 01, "The horizon", and refusals 7 and 8 (RULES.md, "The horizon" and "Refusals"): a direction as an observer sees it. Angles are in units of
 -- 0.0001″.
-use Rattle.std.specs.Prelude.{not, List, [], ◌∷◌, ℕ, ◌+◌, ◌*◌, ◌^◌, ltb, ℤ, pos, neg_ℤ, nat_abs, ◌+ℤ◌, ◌-ℤ◌, ◌*ℤ◌}
+use Rattle.std.specs.Prelude.{not, List, [], ◌∷◌, ℕ, ◌+◌, ◌*◌, ◌^◌, ltb, ℤ, pos, neg_ℤ, nat_abs, ◌+ℤ◌, ◌-ℤ◌, ◌*ℤ◌, Result, Ok, Err}
 use Rattle.std.specs.Int.Signed.{lt_z}
 use Rattle.refusal.specs.RefusalNumbers.{number_of}
 use Rattle.refusal.specs.Tests.{Test, test, decided}
+use Rattle.refusal.specs.declared.Refusal.{Refusal}
 use Rattle.exact.specs.Division.{nearest_div}
 use Rattle.exact.specs.Largest.{root}
 use Rattle.exact.specs.Nth.{nth}
@@ -11,8 +12,7 @@ use Rattle.sine_table.specs.Table.{R}
 use Rattle.vector_angle.specs.VectorAngle.{angle}
 use Rattle.rotation.specs.Rotation.{rotated, sin_of, cos_of, rotation3}
 use Rattle.site.specs.declared.Position.{Position}
-use Rattle.horizon.specs.declared.Sighting.{Sighting}
-use Rattle.horizon.specs.declared.Sighting.TheVariants.{Seen, Refused}
+use Rattle.horizon.specs.declared.SightAngles.{SightAngles}
 
 -- ---- the view
 -- (x', east, z): the direction rotated by R3 to the meridian of a longitude, at Greenwich's sidereal time
@@ -85,7 +85,7 @@ sight_tests v =
 unfoldable pub sight_of : View → SightValues
 sight_of v = decided (sight_tests v) (seen v) refused
 
--- 01's number and values of each case of the code's answer
-abbrev pub sight_values : Sighting → SightValues
-sight_values (Seen a) = record { refusal = 0; azimuth = a.azimuth; zenith_distance = a.zenith_distance; hour_angle = a.hour_angle }
-sight_values (Refused r) = refused (number_of r)
+-- the number and the values of each case of the code's answer
+abbrev pub sight_values : Result SightAngles Refusal → SightValues
+sight_values (Ok a) = record { refusal = 0; azimuth = a.azimuth; zenith_distance = a.zenith_distance; hour_angle = a.hour_angle }
+sight_values (Err r) = refused (number_of r)
