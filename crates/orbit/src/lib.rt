@@ -1,11 +1,11 @@
 // The ellipse of the Earth's orbit: the true anomaly, the radius vector, and the aberration in longitude that this gives. Distances and the
-// eccentricity are in units of 10^−9, angles in units of 0.0001 second of arc. Document 02, request 9.
+// eccentricity are in units of 10^−9, angles in units of 0.0001 second of arc.
 #![tactic(auto)]
 
 ghost use Rattle.std.specs.Prelude.{◌≡◌, ◌*◌, ◌≤◌, ◌<◌, ◌^◌, nat_abs, ◌+ℤ◌};
 ghost use Rattle.exact.specs.Reduction.{turn, reduced};
 ghost use Rattle.secular.specs.Sizes.{most_millionths};
-ghost use Rattle.sine_table.specs.Table.{R, entries};
+ghost use Rattle.sine_table.specs.Table.{R};
 ghost use Rattle.epoch.specs.Sizes.{InSpan};
 ghost use Rattle.arguments.specs.PrintedArguments.{arguments_of};
 ghost use Rattle.sun.specs.Longitude.{equation_of_centre};
@@ -15,7 +15,6 @@ ghost use Rattle.orbit.specs.Orbit.{eccentricity, radius_by, radius_vector, at_d
 use epoch::Epoch;
 use secular::{Polynomial, SQUARE};
 use sine::RADIUS;
-use sine_table::SineTable;
 
 // The constant of aberration, in units: 20.496″.
 const ABERRATION: i64 = 204_960;
@@ -54,17 +53,12 @@ fn radius_by(e: i64, cosine: i64) -> u64
 }
 
 // The radius vector at an epoch, from its arguments and the equation of the centre.
-pub fn radius_vector(
-    t: &SineTable,
-    equation: i64,
-    arguments: &[i64; arguments::COUNT],
-    e: Epoch,
-) -> u64
-    requires { ((t.now ≡ entries) × (arguments.now ≡ arguments_of e) × InSpan e) × ((equation ≡ equation_of_centre (arguments_of e) e.q) × (nat_abs equation ≤ 2 ^ 27)) }
+pub fn radius_vector(equation: i64, arguments: &[i64; arguments::COUNT], e: Epoch) -> u64
+    requires { ((arguments.now ≡ arguments_of e) × InSpan e) × ((equation ≡ equation_of_centre (arguments_of e) e.q) × (nat_abs equation ≤ 2 ^ 27)) }
     ensures { (result ≡ radius_vector e) × RadiusSized result }
 {
     let v = true_angle(arguments[arguments::MS], equation);
-    radius_by(eccentricity(e.q), sine::cos(t, v))
+    radius_by(eccentricity(e.q), sine::cos(v))
 }
 
 // What is c at the mean distance, at a distance.

@@ -40,7 +40,7 @@ module _ (c : After-sin) where
   sine-fits = ok-fits c.sin.result c.sin.type_inv
 
   divisor : (pos 0 <ℤ c.sin.result) × (sine_least ≤ nat_abs c.sin.result) × (nat_abs c.sin.result ≤ R)
-  divisor = let s = c.sin.ensures in steep c.sin.result (subst⁻¹ (λ (z : ℤ). pos sine_least ≤ℤ z) s.value start.requires.3) s.range
+  divisor = let s = c.sin.ensures in steep c.sin.result (subst⁻¹ (λ (z : ℤ). pos sine_least ≤ℤ z) s.value start.requires.2) s.range
 
 pub returns : goal.returns
 unfolding correction
@@ -53,4 +53,4 @@ returns c =
     let quotient = simp (to_z-of_z, half-fits h, (product h).0, sine-fits d) at n.ensures in
     let is : n.result ≡ correction a.radius_vector a.zenith_distance =
     quotient ∙ ap₂ (λ (x y : ℤ). nearest_div (x *ℤ pos R) (nat_abs y)) h.semidiameter.ensures.0 d.sin.ensures.value in
-    simp (to_z-of_z, ok-fits n.result n.type_inv) (is, subst⁻¹ CorrectionSized is (correction-range a.radius_vector a.zenith_distance s.requires.1 (omega (arith, s.requires.2)) s.requires.3))
+    simp (to_z-of_z, ok-fits n.result n.type_inv) (is, subst⁻¹ CorrectionSized is (correction-range a.radius_vector a.zenith_distance s.requires.0 (omega (arith, s.requires.1)) s.requires.2))

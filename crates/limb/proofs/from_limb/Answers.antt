@@ -47,7 +47,7 @@ returns-then-limb-eq1 c =
     (rw ((decide_iff (ℤ_discrete s.args.limb (pos 1))).1 one), omega arith)
 
 pub correction-correction-requires : goal.correction-correction-requires
-correction-correction-requires c = let p = c.before.requires in (p.0, p.1 (off-centre c), p.2, p.3)
+correction-correction-requires c = let p = c.before.requires in (p.0 (off-centre c), p.1, p.2)
 
 pub returns-then-limb-eq2 : goal.returns-then-limb-eq2
 unfolding from_limb
