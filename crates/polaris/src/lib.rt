@@ -1,5 +1,5 @@
-// The direction of Polaris: document 01, "Polaris". The position in the FK4 with proper motion, precession, nutation and aberration. Angles are
-// in units of 0.0001″; ε₀ is the mean obliquity, Δψ the nutation in longitude, ε the true obliquity.
+// The direction of Polaris: the position in the FK4 with proper motion, precession, nutation and aberration. Angles are in units of 0.0001″;
+// ε₀ is the mean obliquity, Δψ the nutation in longitude, ε the true obliquity.
 #![tactic(auto)]
 
 mod tables;
@@ -7,7 +7,7 @@ mod tables;
 ghost use Rattle.std.specs.Prelude.{◌≡◌, ◌+◌, ◌*◌, ◌≤◌, ◌<◌, ◌^◌, nat_abs, neg_ℤ};
 ghost use Rattle.exact.specs.Reduction.{turn};
 ghost use Rattle.secular.specs.Sizes.{most_millionths};
-ghost use Rattle.sine_table.specs.Table.{R, entries};
+ghost use Rattle.sine_table.specs.Table.{R};
 ghost use Rattle.sine.specs.SineContract.{circle_most};
 ghost use Rattle.rotation.specs.Rotation.{rotated, rotation3};
 ghost use Rattle.rotation.specs.Length.{squared_length, growth};
@@ -19,7 +19,6 @@ ghost use Rattle.polaris.specs.Sizes.{ElementsSized, direction_most};
 
 use epoch::Epoch;
 use rotation::Direction;
-use sine_table::SineTable;
 
 // The epoch 1975.0, in milliseconds since 1900 January 0.5: Julian date 2442413.478 (001 section 3.2).
 const EPOCH_1975: i64 = 2_366_796_499_200;
@@ -31,7 +30,7 @@ const TROPICAL_CENTURY: i64 = 3_155_692_599_360;
 const ABERRATION_PARTS: i64 = 99_367;
 
 // The angles that change with p, in units: right ascension and declination with their proper motion, and precession's ζ, θ and z.
-#[derive(Clone, Copy)]
+#[derive(Clone, Copy, Debug, PartialEq, Eq)]
 pub struct Elements {
     pub alpha: i64,
     pub delta: i64,
@@ -57,67 +56,55 @@ pub fn elements_of(p: i64) -> Elements
     Elements {
         alpha: secular::value(tables::RIGHT_ASCENSION, p),
         delta: secular::value(tables::DECLINATION, p),
-        zeta: zeta,
+        zeta,
         theta: secular::value(tables::THETA, p),
         z: zeta + secular::value(tables::Z_LESS_ZETA, p),
     }
 }
 
 // d rotated by R3(−a).
-fn rotated_back(t: &SineTable, a: i64, d: Direction) -> Direction
-    requires { (t.now ≡ entries) × (nat_abs a < 2 ^ 40) × (squared_length d ≤ reach) }
+fn rotated_back(a: i64, d: Direction) -> Direction
+    requires { (nat_abs a < 2 ^ 40) × (squared_length d ≤ reach) }
     ensures { (result ≡ rotated (rotation3 (neg_ℤ a)) d) × (squared_length result ≤ squared_length d + growth) }
 {
-    rotation::rotated(rotation::rotation3(t, -a), d)
+    rotation::rotated(rotation::rotation3(-a), d)
 }
 
 // The direction of a right ascension and a declination: that of the declination on the meridian of the equinox, rotated back by the right
 // ascension.
-pub fn catalogue(t: &SineTable, alpha: i64, delta: i64) -> Direction
-    requires { (t.now ≡ entries) × (nat_abs alpha < 2 ^ 40) × (nat_abs delta < 2 ^ 40) }
+pub fn catalogue(alpha: i64, delta: i64) -> Direction
+    requires { (nat_abs alpha < 2 ^ 40) × (nat_abs delta < 2 ^ 40) }
     ensures { (result ≡ catalogue alpha delta) × (squared_length result ≤ circle_most + growth) }
 {
     let d = exact::reduced_bounded(delta);
-    rotated_back(t, alpha, [sine::cos(t, d), 0, sine::sin(t, d)])
+    rotated_back(alpha, [sine::cos(d), 0, sine::sin(d)])
 }
 
 // Precession, from the equinox of 1975.0 to that of the date.
-fn precessed(t: &SineTable, zeta: i64, theta: i64, z: i64, d: Direction) -> Direction
-    requires { (t.now ≡ entries) × (nat_abs zeta < 2 ^ 40) × (nat_abs theta < 2 ^ 40) × (nat_abs z < 2 ^ 40) × (squared_length d + 2 * growth ≤ reach) }
-    ensures { (result ≡ precessed zeta theta z d) × (squared_length result ≤ squared_length d + 3 * growth) }
+fn precessed(k: Elements, d: Direction) -> Direction
+    requires { ElementsSized k × (squared_length d + 2 * growth ≤ reach) }
+    ensures { (result ≡ precessed k.zeta k.theta k.z d) × (squared_length result ≤ squared_length d + 3 * growth) }
 {
-    let a = rotation::rotated(rotation::rotation2(t, theta), rotated_back(t, zeta, d));
-    rotated_back(t, z, a)
+    let a = rotation::rotated(rotation::rotation2(k.theta), rotated_back(k.zeta, d));
+    rotated_back(k.z, a)
 }
 
 // Nutation, from the mean equinox of the date to the true one.
-fn nutated(t: &SineTable, epsilon0: i64, dpsi: i64, epsilon: i64, d: Direction) -> Direction
-    requires { (t.now ≡ entries) × (nat_abs epsilon0 < 2 ^ 40) × (nat_abs dpsi < 2 ^ 40) × (nat_abs epsilon < 2 ^ 40) × (squared_length d + 2 * growth ≤ reach) }
+fn nutated(epsilon0: i64, dpsi: i64, epsilon: i64, d: Direction) -> Direction
+    requires { (nat_abs epsilon0 < 2 ^ 40) × (nat_abs dpsi < 2 ^ 40) × (nat_abs epsilon < 2 ^ 40) × (squared_length d + 2 * growth ≤ reach) }
     ensures { (result ≡ nutated epsilon0 dpsi epsilon d) × (squared_length result ≤ squared_length d + 3 * growth) }
 {
-    let a = rotation::rotated(rotation::rotation1(t, epsilon0), d);
-    rotation::rotated(rotation::rotation1(t, -epsilon), rotated_back(t, dpsi, a))
+    let a = rotation::rotated(rotation::rotation1(epsilon0), d);
+    rotation::rotated(rotation::rotation1(-epsilon), rotated_back(dpsi, a))
 }
 
 // The direction without aberration, of ε₀, Δψ and ε.
-pub fn true_direction(
-    t: &SineTable,
-    k: Elements,
-    epsilon0: i64,
-    dpsi: i64,
-    epsilon: i64,
-) -> Direction
-    requires { (t.now ≡ entries) × ElementsSized k × (nat_abs epsilon0 < 2 ^ 40) × (nat_abs dpsi < 2 ^ 40) × (nat_abs epsilon < 2 ^ 40) }
+pub fn true_direction(k: Elements, epsilon0: i64, dpsi: i64, epsilon: i64) -> Direction
+    requires { ElementsSized k × (nat_abs epsilon0 < 2 ^ 40) × (nat_abs dpsi < 2 ^ 40) × (nat_abs epsilon < 2 ^ 40) }
     ensures { (result ≡ true_direction k epsilon0 dpsi epsilon) × (squared_length result ≤ circle_most + 7 * growth) }
 {
-    let d = catalogue(t, k.alpha, k.delta);
-    nutated(
-        t,
-        epsilon0,
-        dpsi,
-        epsilon,
-        precessed(t, k.zeta, k.theta, k.z, d),
-    )
+    let d = catalogue(k.alpha, k.delta);
+    nutated(epsilon0, dpsi, epsilon, precessed(k, d))
 }
 
 // a·b over R, to nearest.
@@ -129,15 +116,15 @@ fn scaled(a: i64, b: i64) -> i64
 }
 
 // What aberration adds, where g is the Sun's longitude by the centre terms alone, reduced.
-fn aberration(t: &SineTable, epsilon: i64, g: u64) -> Direction
-    requires { (t.now ≡ entries) × (nat_abs epsilon < 2 ^ 40) × (g < turn) }
+fn aberration(epsilon: i64, g: u64) -> Direction
+    requires { (nat_abs epsilon < 2 ^ 40) × (g < turn) }
     ensures { (result ≡ aberration epsilon g) × Bounded aberration_parts result }
 {
     let e = exact::reduced_bounded(epsilon);
-    let c = -sine::cos(t, g);
-    let x = scaled(ABERRATION_PARTS, sine::sin(t, g));
-    let y = scaled(ABERRATION_PARTS, scaled(c, sine::cos(t, e)));
-    let z = scaled(ABERRATION_PARTS, scaled(c, sine::sin(t, e)));
+    let c = -sine::cos(g);
+    let x = scaled(ABERRATION_PARTS, sine::sin(g));
+    let y = scaled(ABERRATION_PARTS, scaled(c, sine::cos(e)));
+    let z = scaled(ABERRATION_PARTS, scaled(c, sine::sin(e)));
     [x, y, z]
 }
 
@@ -150,20 +137,13 @@ fn plus(d: Direction, a: Direction) -> Direction
 }
 
 // The apparent direction of Polaris at an epoch, of ε₀, Δψ, ε and g.
-pub fn direction(
-    t: &SineTable,
-    e: Epoch,
-    epsilon0: i64,
-    dpsi: i64,
-    epsilon: i64,
-    g: u64,
-) -> Direction
-    requires { (t.now ≡ entries) × InSpan e × (nat_abs epsilon0 < 2 ^ 40) × (nat_abs dpsi < 2 ^ 40) × (nat_abs epsilon < 2 ^ 40) × (g < turn) }
+pub fn direction(e: Epoch, epsilon0: i64, dpsi: i64, epsilon: i64, g: u64) -> Direction
+    requires { InSpan e × (nat_abs epsilon0 < 2 ^ 40) × (nat_abs dpsi < 2 ^ 40) × (nat_abs epsilon < 2 ^ 40) × (g < turn) }
     ensures { (result ≡ direction e epsilon0 dpsi epsilon g) × (squared_length result ≤ direction_most) }
 {
     let k = elements_of(tropical_millionths(e));
     plus(
-        true_direction(t, k, epsilon0, dpsi, epsilon),
-        aberration(t, epsilon, g),
+        true_direction(k, epsilon0, dpsi, epsilon),
+        aberration(epsilon, g),
     )
 }

@@ -1,4 +1,4 @@
--- 01's vector is a direction in the plane of the first and third axes, rotated by R3(−α).
+-- The vector is a direction in the plane of the first and third axes, rotated by R3(−α).
 use mathlib.Core.Path.{◌≡◌, ap, ap₂, ◌∙◌}
 use mathlib.Core.List.{[], ◌∷◌}
 use Prim.Native.Nat.{◌≤◌}
@@ -20,7 +20,7 @@ use Rattle.rotation.specs.Length.{squared_length}
 use Rattle.rotation.proofs.Growth.{plane-xz}
 use Rattle.rotation.proofs.Components.{rotated-3, sin-neg, cos-neg}
 use Rattle.polaris.specs.Apparent.{catalogue}
-use Rattle.polaris.proofs.catalogue.Goals.{After-sin, Start}
+use Rattle.polaris.proofs.catalogue.Goals.{After-sin}
 use Rattle.polaris.proofs.catalogue.Goals as goal
 
 catalogue-is : (α δ : ℤ) → rotated (rotation3 (neg_ℤ α)) (cos_of δ ∷ pos 0 ∷ sin_of δ ∷ []) ≡ catalogue α δ
@@ -37,38 +37,26 @@ catalogue-is α δ =
     y-is c s d = rw (split c, split s, split d) (simp zs (omega arith))
 
 module _ (c : After-sin) where
-  abbrev start : Start
-  start = c.before.before.before
+  fits : SFits w64 c.cos.result × SFits w64 c.sin.result
+  fits = (ok-fits c.cos.result c.cos.type_inv, ok-fits c.sin.result c.sin.type_inv)
 
-  abbrev x : ℤ
-  x = c.before.cos.result
+  angle-is : c.reduced_bounded-d.result ≡ reduced c.args.delta
+  angle-is = simp (to_z-of_z, c.ranges.delta) at c.reduced_bounded-d.ensures.0
 
-  abbrev z : ℤ
-  z = c.sin.result
+  x-is : c.cos.result ≡ cos_of c.args.delta
+  x-is = c.cos.ensures.0 ∙ ap Cos angle-is
 
-  fits : SFits w64 x × SFits w64 z
-  fits = (ok-fits x c.before.cos.type_inv, ok-fits z c.sin.type_inv)
-
-  angle-is : c.before.before.reduced_bounded-d.result ≡ reduced start.args.delta
-  angle-is = simp (to_z-of_z, start.ranges.delta) at c.before.before.reduced_bounded-d.ensures.0
-
-  x-is : x ≡ cos_of start.args.delta
-  x-is = c.before.cos.ensures.0 ∙ ap Cos angle-is
-
-  z-is : z ≡ sin_of start.args.delta
+  z-is : c.sin.result ≡ sin_of c.args.delta
   z-is = c.sin.ensures.value ∙ ap Sin angle-is
 
-  short : squared_length (x ∷ pos 0 ∷ z ∷ []) ≤ circle_most
-  short = plane-xz (reduced start.args.delta) (reduced-lt start.args.delta) x-is z-is
+  short : squared_length (c.cos.result ∷ pos 0 ∷ c.sin.result ∷ []) ≤ circle_most
+  short = plane-xz (reduced c.args.delta) (reduced-lt c.args.delta) x-is z-is
 
 pub rotated_back-requires : goal.rotated_back-requires
-rotated_back-requires c =
-    let s = start c in
-    simp (to_z-of_z, s.ranges.alpha, (fits c).0, (fits c).1) (s.requires.0, s.requires.1, omega (arith, short c))
+rotated_back-requires c = simp (to_z-of_z, c.ranges.alpha, (fits c).0, (fits c).1) (c.requires.0, omega (arith, short c))
 
 pub returns : goal.returns
 returns c =
     let d = c.before in
-    let s = start d in
-    let e = simp (to_z-of_z, s.ranges.alpha, (fits d).0, (fits d).1) at c.rotated_back.ensures in
-    (cc (e.0, x-is d, z-is d, catalogue-is s.args.alpha s.args.delta), omega (arith, e.1, short d))
+    let e = simp (to_z-of_z, c.ranges.alpha, (fits d).0, (fits d).1) at c.rotated_back.ensures in
+    (cc (e.0, x-is d, z-is d, catalogue-is c.args.alpha c.args.delta), omega (arith, e.1, short d))

@@ -12,35 +12,31 @@ use Rattle.secular.specs.FlooredPolynomial.{value}
 use Rattle.secular.specs.declared.Polynomial.{Polynomial}
 use Rattle.polaris.specs.PrintedElements.{right_ascension, declination, zeta, z_less_zeta, theta}
 use Rattle.polaris.proofs.Stored.{stored, value_of}
-use Rattle.polaris.proofs.elements_of.Goals.{After-value-4, Start}
+use Rattle.polaris.proofs.elements_of.Goals.{After-value-4}
 use Rattle.polaris.proofs.elements_of.Goals as goal
 
 sum-size : (a b : ℤ) → nat_abs a < 2 ^ 39 → nat_abs b < 2 ^ 39 → SFits w64 (a +ℤ b) × (nat_abs (a +ℤ b) < 2 ^ 40)
 sum-size a b = rw (split a, split b) (simp zs (omega arith))
 
 module _ (c : After-value-4) where
-  abbrev start : Start
-  start = c.before.before.before.before.before
-
   abbrev ζ : ℤ
-  ζ = c.before.before.before.before.value-zeta.result
+  ζ = c.value-zeta.result
 
   -- what z has beyond ζ
   abbrev more : ℤ
   more = c.value-4.result
 
   abbrev Is : Polynomial → ℤ → Type 0
-  Is row r = (r ≡ value row start.args.p) × (nat_abs r < 2 ^ 39) × SFits w64 r
+  Is row r = (r ≡ value row c.args.p) × (nat_abs r < 2 ^ 39) × SFits w64 r
 
-  found : Is zeta ζ × Is right_ascension c.before.before.before.value.result × Is declination c.before.before.value-2.result
-      × Is theta c.before.value-3.result × Is z_less_zeta more
+  found : Is zeta ζ × Is right_ascension c.value.result × Is declination c.value-2.result × Is theta c.value-3.result × Is z_less_zeta more
   unfolding held
   found =
-      let f = start.ranges.p in (
-        value_of stored.2 f c.before.before.before.before.value-zeta.ensures,
-        value_of stored.0 f c.before.before.before.value.ensures,
-        value_of stored.1 f c.before.before.value-2.ensures,
-        value_of stored.4 f c.before.value-3.ensures,
+      let f = c.ranges.p in (
+        value_of stored.2 f c.value-zeta.ensures,
+        value_of stored.0 f c.value.ensures,
+        value_of stored.1 f c.value-2.ensures,
+        value_of stored.4 f c.value-3.ensures,
         value_of stored.3 f c.value-4.ensures,
       )
 
