@@ -1,6 +1,7 @@
 -- Document 02, request 8 (RULES.md, "What the short edition leaves out"): what the eight numbers of an instant are answered with, in units of 0.0001″.
-use Rattle.std.specs.Prelude.{List, ℕ, ℤ, pos}
+use Rattle.std.specs.Prelude.{List, ℕ, ℤ, pos, Result, Ok, Err}
 use Rattle.refusal.specs.RefusalNumbers.{number_of}
+use Rattle.refusal.specs.declared.Refusal.{Refusal}
 use Rattle.refusal.specs.Tests.{decided}
 use Rattle.exact.specs.Nth.{nth}
 use Rattle.exact.specs.Reduction.{short_way}
@@ -10,8 +11,6 @@ use Rattle.calendar.specs.declared.CivilTime.{CivilTime}
 use Rattle.sun.specs.Longitude.{aberration, apparent_longitude}
 use Rattle.sun.specs.ShortCost.{short_cost}
 use Rattle.short_series.specs.declared.Comparison.{Comparison}
-use Rattle.short_series.specs.declared.Answer.{Answer}
-use Rattle.short_series.specs.declared.Answer.TheVariants.{Compared, Refused}
 
 -- ---- what is asked
 -- fields 1 to 7 and 11, in this order and the units of RULES.md, "Fields"
@@ -44,13 +43,13 @@ pub record EditionsValues : Type 0 where
 abbrev pub refused : ℕ → EditionsValues
 refused k = record { refusal = k; short = 0; full = 0; apart = 0; bound = 0 }
 
--- the number and values of each case of the code's answer
+-- the number and values of the code's answer
 abbrev pub comparison_values : Comparison → EditionsValues
 comparison_values c = record { refusal = 0; short = c.short; full = c.full; apart = c.apart; bound = c.bound }
 
-abbrev pub editions_values : Answer → EditionsValues
-editions_values (Compared c) = comparison_values c
-editions_values (Refused r) = refused (number_of r)
+abbrev pub editions_values : Result Comparison Refusal → EditionsValues
+editions_values (Ok c) = comparison_values c
+editions_values (Err r) = refused (number_of r)
 
 -- at an epoch of ephemeris time: the bound has its q too
 unfoldable pub compared_at : Epoch → EditionsValues

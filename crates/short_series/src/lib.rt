@@ -1,35 +1,26 @@
 // What the short edition of the Sun's series costs, for teachers: the Sun's apparent longitude at an instant by both editions, and how far
-// they can be apart. Document 02, request 8.
+// they can be apart.
 #![tactic(auto)]
 
 ghost use Rattle.std.specs.Prelude.{◌≡◌, ◌≤◌, length};
-ghost use Rattle.sine_table.specs.Table.{entries};
 ghost use Rattle.epoch.specs.Sizes.{InSpan};
 ghost use Rattle.short_series.specs.Editions.{number_count, time_of, comparison_values, compared_at, editions_values, editions};
 
-use calendar::{CivilTime, Instant};
+use calendar::CivilTime;
 use epoch::Epoch;
 use refusal::Refusal;
-use sine_table::SineTable;
 
 // How many numbers an instant has: fields 1 to 7 and 11 of the card.
 pub const NUMBERS: usize = 8;
 
 // An instant by both editions, in units of 0.0001 second of arc: the apparent longitude by the short one and by the full one, how far these
 // are apart the short way round, and what bounds that, the amplitudes that the short one leaves out.
-#[derive(Clone, Copy)]
+#[derive(Clone, Copy, Debug, PartialEq, Eq)]
 pub struct Comparison {
     pub short: u64,
     pub full: u64,
     pub apart: u64,
     pub bound: u64,
-}
-
-// What eight numbers are answered with: the comparison, or why they name no instant, 2, 3, 4 or 17.
-#[derive(Clone, Copy)]
-pub enum Answer {
-    Compared(Comparison),
-    Refused(Refusal),
 }
 
 // The instant of these numbers, which stand first in the list.
@@ -50,13 +41,13 @@ pub fn time_of(list: &[i64]) -> CivilTime
 }
 
 // Both editions at an epoch of ephemeris time.
-fn compared_at(t: &SineTable, e: Epoch) -> Comparison
-    requires { (t.now ≡ entries) × InSpan e }
+fn compared_at(e: Epoch) -> Comparison
+    requires { InSpan e }
     ensures { comparison_values result ≡ compared_at e }
 {
     let arguments = arguments::arguments_of(e);
-    let dpsi = frame::dpsi(t, &arguments, e);
-    let s = sun::both_longitudes(t, &arguments, e, dpsi, sun::ABERRATION);
+    let dpsi = frame::dpsi(&arguments, e);
+    let s = sun::both_longitudes(&arguments, e, dpsi, sun::ABERRATION);
     Comparison {
         short: s.short,
         full: s.full,
@@ -65,21 +56,10 @@ fn compared_at(t: &SineTable, e: Epoch) -> Comparison
     }
 }
 
-// The two editions at an instant, any numbers, with the sine's table lent.
-pub fn editions_with(t: &SineTable, time: CivilTime) -> Answer
-    requires { t.now ≡ entries }
+// The two editions at an instant of any eight numbers, or why they name none.
+pub fn editions(time: CivilTime) -> Result<Comparison, Refusal>
     ensures { editions_values result ≡ editions time }
 {
-    match calendar::instant_of(time) {
-        Instant::Accepted(epochs) => Answer::Compared(compared_at(t, epochs.ephemeris)),
-        Instant::Refused(refusal) => Answer::Refused(refusal),
-    }
-}
-
-// The same, with a table of its own.
-pub fn editions(time: CivilTime) -> Answer
-    ensures { editions_values result ≡ editions time }
-{
-    let t = sine_table::table();
-    editions_with(&t, time)
+    let epochs = calendar::instant_of(time)?;
+    Ok(compared_at(epochs.ephemeris))
 }

@@ -20,10 +20,10 @@ unfolding compared_at
 made e short full apart bound s f a b = rw (a, b, s, f) refl
 
 pub short_cost-requires : goal.short_cost-requires
-short_cost-requires c = simp (to_z-of_z, q-fits c.requires.1) (q-size c.requires.1)
+short_cost-requires c = simp (to_z-of_z, q-fits c.requires) (q-size c.requires)
 
 pub returns : goal.returns
 unfolding aberration nearest_div floor_div
 returns c =
     let l = c.both_longitudes-s.ensures in
-    made c.args.e _ _ _ _ l.0.value l.1.value c.short_way.ensures (simp (to_z-of_z, q-fits c.requires.1) at c.short_cost.ensures)
+    made c.args.e _ _ _ _ l.0.value l.1.value c.short_way.ensures (simp (to_z-of_z, q-fits c.requires) at c.short_cost.ensures)

@@ -1,6 +1,7 @@
 -- The calendar's answer decides.
 use mathlib.Core.Path.{◌≡◌, refl, ap, ◌∙◌}
 use native.Mathlib.Omega.{arith}
+use Rattle.std.proofs.lemmas.Result.{err_from_is_err_and}
 use Rattle.refusal.specs.RefusalNumbers.{number_of}
 use Rattle.refusal.specs.declared.Refusal.{Refusal}
 use Rattle.refusal.proofs.Decisions.{Numbered, Refusable, handed-on, passed_on, is-answer}
@@ -34,4 +35,6 @@ pub returns : goal.returns
 returns c = c.compared_at.ensures ∙ compared-editions c.args.time c.in_ok-epochs.epochs c.in_ok-epochs.ensures.0
 
 pub returns-in_err-epochs : goal.returns-in_err-epochs
-returns-in_err-epochs c = refused-editions c.args.time c.in_err-epochs.error c.in_err-epochs.ensures.0
+returns-in_err-epochs c =
+    let e = err_from_is_err_and c.from_residual.result c.from_residual.ensures.1 in
+    rw (e.1, e.2) (refused-editions c.args.time _ c.in_err-epochs.ensures.0)
