@@ -1,5 +1,5 @@
--- What the astrometry of an accepted instant gives to both bodies: that a sight under it is the definition's.
-use mathlib.Core.Path.{◌≡◌, refl}
+-- What the astrometry of an accepted instant gives to both bodies.
+use mathlib.Core.Path.{◌≡◌, refl, ap}
 use mathlib.Core.List.{List}
 use Prim.Native.Nat.{ℕ, ◌^◌}
 use lib.IntN.{ℤ, pos}
@@ -11,41 +11,37 @@ use Rattle.sun.specs.Direction as Sun
 use Rattle.polaris.specs.Apparent as Polaris
 use Rattle.site.specs.declared.Position.{Position}
 use Rattle.horizon.specs.Horizon.{view_from}
-use Rattle.fieldbook.specs.Shot.{ShotValues, ShotReduced, sun_longitude, sun_direction, polaris_direction, view_at}
-use Rattle.fieldbook.specs.Parts.{sighted_shot}
-use Rattle.fieldbook.specs.Astrometry.{IsAstrometry}
+use Rattle.fieldbook.specs.Shot.{sun_longitude, sun_direction, polaris_direction, view_at}
 use Rattle.fieldbook.specs.declared.Astrometry.{Astrometry}
 
--- ---- the frame's numbers fit
-module _ (k : Astrometry) (h : IsAstrometry k) where
+module _ (k : Astrometry) where
+  -- ---- the frame's numbers fit
   pub epsilon0-fits : SFits w64 k.frame.epsilon0
-  epsilon0-fits = fits_lt (2 ^ 34) k.frame.epsilon0 h.frame.epsilon0-size refl
+  epsilon0-fits = fits_lt (2 ^ 34) k.frame.epsilon0 k.known.frame.epsilon0-size refl
 
   pub dpsi-fits : SFits w64 k.frame.dpsi
-  dpsi-fits = fits_le (2 ^ 20) k.frame.dpsi h.frame.dpsi-size refl
+  dpsi-fits = fits_le (2 ^ 20) k.frame.dpsi k.known.frame.dpsi-size refl
 
   pub epsilon-fits : SFits w64 k.frame.epsilon
-  epsilon-fits = fits_lt (2 ^ 35) k.frame.epsilon h.frame.epsilon-size refl
+  epsilon-fits = fits_lt (2 ^ 35) k.frame.epsilon k.known.frame.epsilon-size refl
 
--- ---- a body by its direction and its longitude
-module _ (k : Astrometry) (h : IsAstrometry k) where
+  -- ---- a body by its direction and its longitude
   pub sun-is : (edition : ℤ) (s : ℕ) (d : List ℤ) → s ≡ apparent_longitude edition aberration k.epochs.ephemeris → d ≡ Sun.direction s k.frame.epsilon
       → (d ≡ sun_direction edition k.epochs.ephemeris) × (s ≡ sun_longitude edition k.epochs.ephemeris)
   unfolding sun_direction sun_longitude
-  sun-is edition s d e f = let i = h.frame.epsilon in let j = h.arguments in (cc, cc)
+  sun-is edition s d e f = let i = k.known.frame.epsilon in let j = k.known.arguments in (cc, cc)
 
   pub polaris-is : (g : ℕ) (d : List ℤ) → g ≡ centre_longitude k.arguments k.epochs.ephemeris.q
       → d ≡ Polaris.direction k.epochs.ephemeris k.frame.epsilon0 k.frame.dpsi k.frame.epsilon g
       → d ≡ polaris_direction k.epochs.ephemeris
   unfolding polaris_direction
   polaris-is g d e f =
-      let i = h.frame.epsilon0 in
-      let j = h.frame.dpsi in
-      let l = h.frame.epsilon in
-      let m = h.arguments in cc
+      let i = k.known.frame.epsilon0 in
+      let j = k.known.frame.dpsi in
+      let l = k.known.frame.epsilon in
+      let m = k.known.arguments in cc
 
-  -- what a sight of it answers is its shot
-  pub shot-is : (p : Position) {d d' : List ℤ} {s s' : ℕ} {v : ShotValues} → d ≡ d' → s ≡ s'
-      → (v ≡ sighted_shot (view_from (pos k.sidereal) p d) s) × ShotReduced v → (v ≡ sighted_shot (view_at k.epochs p d') s') × ShotReduced v
+  -- ---- the view of it
+  pub view-is : (p : Position) (d : List ℤ) → view_from (pos k.sidereal) p d ≡ view_at k.epochs p d
   unfolding view_at
-  shot-is p e f v = let i = h.sidereal in let j = v.0 in (cc, v.1)
+  view-is p d = ap (λ (n : ℕ). view_from (pos n) p d) k.known.sidereal

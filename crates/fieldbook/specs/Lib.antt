@@ -2,3 +2,4 @@
 pub mod Shot
 pub mod Parts
 pub mod Astrometry
+pub mod Bodies

@@ -1,10 +1,11 @@
 -- Document 01, "Refusal numbers" and "The horizon", and document 02, requests 3 and 7 (RULES.md, "Refusals", "The horizon" and "Options"): what the shot
 -- with eleven plain numbers and the shot from a card answer. Angles are in units of 0.0001″.
-use Rattle.std.specs.Prelude.{Bool, cond, List, ◌∷◌, ◌++◌, ℕ, ◌<◌, ℤ, pos, get_or, drop}
+use Rattle.std.specs.Prelude.{Bool, cond, List, ◌∷◌, ◌++◌, ℕ, ◌<◌, ℤ, pos, get_or, drop, Result, Ok, Err}
 use Rattle.std.proofs.Math.Bool.{decide}
 use Rattle.std.proofs.Math.IntN.{ℤ_discrete}
 use Rattle.refusal.specs.RefusalNumbers.{number_of}
 use Rattle.refusal.specs.Tests.{Test, test, decided}
+use Rattle.refusal.specs.declared.Refusal.{Refusal}
 use Rattle.exact.specs.Reduction.{turn}
 use Rattle.exact.specs.Range.{between}
 use Rattle.exact.specs.Nth.{nth}
@@ -27,8 +28,7 @@ use Rattle.card.specs.declared.Card.{Card}
 use Rattle.fieldbook.specs.declared.Numbers.{Numbers}
 use Rattle.fieldbook.specs.declared.Options.{Options}
 use Rattle.fieldbook.specs.declared.Query.{Query}
-use Rattle.fieldbook.specs.declared.Outcome.{Outcome}
-use Rattle.fieldbook.specs.declared.Outcome.TheVariants.{Answered, Refused}
+use Rattle.fieldbook.specs.declared.ShotAngles.{ShotAngles}
 
 -- ---- what a shot is asked with
 -- the numbers of the fields, in the order and the units of RULES.md, "Fields": 1 to 7 and 11 the time, 8 and 9 the site, 10 the body
@@ -79,10 +79,10 @@ pub record ShotValues : Type 0 where
 abbrev pub refused : ℕ → ShotValues
 refused k = record { refusal = k; azimuth = 0; zenith_distance = 0; hour_angle = 0; longitude = 0 }
 
--- document 01's number and values of each case of the code's answer
-abbrev pub shot_values : Outcome → ShotValues
-shot_values (Answered a) = record { refusal = 0; azimuth = a.azimuth; zenith_distance = a.zenith_distance; hour_angle = a.hour_angle; longitude = a.longitude }
-shot_values (Refused r) = refused (number_of r)
+-- the number and the values of each case of the code's answer
+abbrev pub shot_values : Result ShotAngles Refusal → ShotValues
+shot_values (Ok a) = record { refusal = 0; azimuth = a.azimuth; zenith_distance = a.zenith_distance; hour_angle = a.hour_angle; longitude = a.longitude }
+shot_values (Err r) = refused (number_of r)
 
 -- every angle is below a full circle
 abbrev pub ShotReduced : ShotValues → Type 0

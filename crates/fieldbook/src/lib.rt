@@ -1,29 +1,27 @@
-// The shot: where the Sun or Polaris stands for eleven numbers, or for a card. Document 01, "Refusal numbers", "The horizon"; document 02,
-// requests 3 (field 11) and 7 (the edition).
+// The shot: where the Sun or Polaris stands for eleven numbers, or for a card.
 #![tactic(auto)]
 
-ghost use Rattle.std.specs.Prelude.{◌≡◌, ◌<◌, ◌≤◌, length};
+ghost use Rattle.std.specs.Prelude.{◌≡◌, ◌+◌, ◌*◌, ◌<◌, ◌≤◌, length};
 ghost use Rattle.exact.specs.Reduction.{turn};
-ghost use Rattle.sine_table.specs.Table.{entries};
-ghost use Rattle.epoch.specs.Sizes.{InSpan};
+ghost use Rattle.rotation.specs.Length.{squared_length, growth};
+ghost use Rattle.rotation.specs.Sizes.{reach};
+ghost use Rattle.calendar.specs.Sizes.{EpochsSized};
 ghost use Rattle.site.specs.Sizes.{PositionSized};
-ghost use Rattle.horizon.specs.Horizon.{View, sight_of, sight_values};
-ghost use Rattle.horizon.specs.Sizes.{SightReduced};
 ghost use Rattle.card.specs.Fields.{field_count};
-ghost use Rattle.fieldbook.specs.Shot.{numbers_of, options_of, query, query_of, shot_values, ShotReduced, shot, shot_from_card};
-ghost use Rattle.fieldbook.specs.Parts.{sighted_shot, sun_shot, polaris_shot, shot_of, shot_from, shot_at};
+ghost use Rattle.fieldbook.specs.Shot.{numbers_of, options_of, query, query_of, shot_values, ShotReduced, view_at, shot, shot_from_card};
+ghost use Rattle.fieldbook.specs.Parts.{sighted_shot, sun_shot, polaris_shot};
 ghost use Rattle.fieldbook.specs.Astrometry.{IsAstrometry};
+ghost use Rattle.fieldbook.specs.Bodies.{Decodes};
 
-use calendar::{CivilTime, Epochs, Instant};
+use calendar::{CivilTime, Epochs};
 use card::Card;
 use frame::Frame;
-use horizon::Sighting;
-use refusal::{Refusal, Verdict};
-use sine_table::SineTable;
-use site::{Located, Position, Site};
+use refusal::Refusal;
+use rotation::Direction;
+use site::{Position, Site};
 
 // The numbers of a shot: fields 1 to 7 and 11 of the card, 8 and 9, and 10.
-#[derive(Clone, Copy)]
+#[derive(Clone, Copy, Debug, PartialEq, Eq)]
 pub struct Numbers {
     pub time: CivilTime,
     pub site: Site,
@@ -32,7 +30,7 @@ pub struct Numbers {
 
 // How a shot is worked, any numbers: the edition of the Sun's series, 1 short or 2 full. Laid out as in C.
 #[repr(C)]
-#[derive(Clone, Copy)]
+#[derive(Clone, Copy, Debug, PartialEq, Eq)]
 pub struct Options {
     pub edition: i64,
 }
@@ -44,7 +42,7 @@ pub const DEFAULTS: Options = Options { edition: 1 };
 pub const OPTIONS: usize = 1;
 
 // What a shot is asked with.
-#[derive(Clone, Copy)]
+#[derive(Clone, Copy, Debug, PartialEq, Eq)]
 pub struct Query {
     pub numbers: Numbers,
     pub options: Options,
@@ -52,7 +50,7 @@ pub struct Query {
 
 // An answered shot, in units of 0.0001 second of arc: the azimuth from north clockwise, the zenith distance, the hour angle, and the
 // Sun's apparent longitude s, 0 for Polaris.
-#[derive(Clone, Copy)]
+#[derive(Clone, Copy, Debug, PartialEq, Eq)]
 pub struct ShotAngles {
     pub azimuth: u64,
     pub zenith_distance: u64,
@@ -60,27 +58,26 @@ pub struct ShotAngles {
     pub longitude: u64,
 }
 
-// What a shot answers.
+// A body that a shot knows.
 #[derive(Clone, Copy)]
-pub enum Outcome {
-    Answered(ShotAngles),
-    Refused(Refusal),
+enum Body {
+    Sun,
+    Polaris,
 }
 
-// What a shot from a card answers, with the card.
-#[derive(Clone, Copy)]
-pub struct CardShot {
-    pub outcome: Outcome,
-    pub card: Card,
-}
+// By the number in field 10, or refusal 6.
+impl TryFrom<i64> for Body {
+    type Error = Refusal;
 
-// What both bodies share at an accepted instant: its epochs, the arguments, the frame of the date and Greenwich sidereal time.
-#[derive(Clone, Copy)]
-struct Astrometry {
-    epochs: Epochs,
-    arguments: [i64; arguments::COUNT],
-    frame: Frame,
-    sidereal: u64,
+    ghost try_from_gives = { Decodes };
+
+    fn try_from(number: i64) -> Result<Body, Refusal> {
+        match number {
+            1 => Ok(Body::Sun),
+            2 => Ok(Body::Polaris),
+            _ => Err(Refusal::NoBody),
+        }
+    }
 }
 
 // The numbers of the fields, in the order of the card, which stand first in the list.
@@ -111,10 +108,10 @@ pub fn numbers_of(fields: &[i64]) -> Numbers
 pub fn options_of(list: &[i64]) -> Options
     ensures { result ≡ options_of list.now }
 {
-    if list.len() == 0 {
-        return DEFAULTS;
+    match list {
+        [edition, ..] => Options { edition: *edition },
+        [] => DEFAULTS,
     }
-    Options { edition: list[0] }
 }
 
 // What the numbers of the fields ask with options.
@@ -122,10 +119,9 @@ pub fn query_with(fields: &[i64], options: Options) -> Query
     requires { field_count ≤ length fields.now }
     ensures { result ≡ query (numbers_of fields.now) options }
 {
-    let numbers = numbers_of(fields);
     Query {
-        numbers: numbers,
-        options: options,
+        numbers: numbers_of(fields),
+        options,
     }
 }
 
@@ -137,166 +133,95 @@ pub fn query_of(list: &[i64], options_at: usize) -> Query
     query_with(list, options_of(&list[options_at..]))
 }
 
-// A sight as a shot's answer, with s.
-fn sighted_shot(sighting: Sighting, longitude: u64) -> Outcome
-    requires { SightReduced sighting × (longitude < turn) }
-    ensures { ((v : View) → sight_values sighting ≡ sight_of v → shot_values result ≡ sighted_shot v longitude) × ShotReduced (shot_values result) }
-{
-    match sighting {
-        Sighting::Seen(a) => Outcome::Answered(ShotAngles {
-            azimuth: a.azimuth,
-            zenith_distance: a.zenith_distance,
-            hour_angle: a.hour_angle,
-            longitude: longitude,
-        }),
-        Sighting::Refused(refusal) => Outcome::Refused(refusal),
-    }
-}
-
-// The astrometry of two epochs: all by ephemeris time, and sidereal time by universal time too.
-fn astrometry_of(t: &SineTable, epochs: Epochs) -> Astrometry
-    requires { (t.now ≡ entries) × (InSpan epochs.universal × InSpan epochs.ephemeris) }
-    ensures { (result.epochs ≡ epochs) × IsAstrometry result }
-{
-    let e = epochs.ephemeris;
-    let arguments = arguments::arguments_of(e);
-    let frame = frame::frame_of(t, &arguments, e);
-    let sidereal = frame::sidereal_time(t, epochs.universal, frame.dpsi, frame.epsilon);
-    Astrometry {
-        epochs: epochs,
-        arguments: arguments,
-        frame: frame,
-        sidereal: sidereal,
-    }
-}
-
-// The Sun from a position, by an edition of its series.
-fn sun_shot(t: &SineTable, edition: i64, astrometry: Astrometry, position: Position) -> Outcome
-    requires { (t.now ≡ entries) × IsAstrometry astrometry × PositionSized position }
-    ensures { (shot_values result ≡ sun_shot edition astrometry.epochs position) × ShotReduced (shot_values result) }
-{
-    let arguments = astrometry.arguments;
-    let e = astrometry.epochs.ephemeris;
-    let f = astrometry.frame;
-    let s = sun::apparent_longitude(t, edition, &arguments, e, f.dpsi, sun::ABERRATION);
-    let d = sun::direction(t, s, f.epsilon);
-    sighted_shot(horizon::sight(t, d, astrometry.sidereal, position), s)
-}
-
-// Polaris from a position.
-fn polaris_shot(t: &SineTable, astrometry: Astrometry, position: Position) -> Outcome
-    requires { (t.now ≡ entries) × IsAstrometry astrometry × PositionSized position }
-    ensures { (shot_values result ≡ polaris_shot astrometry.epochs position) × ShotReduced (shot_values result) }
-{
-    let arguments = astrometry.arguments;
-    let e = astrometry.epochs.ephemeris;
-    let f = astrometry.frame;
-    let g = sun::centre_longitude(t, &arguments, e);
-    let d = polaris::direction(t, e, f.epsilon0, f.dpsi, f.epsilon, g);
-    sighted_shot(horizon::sight(t, d, astrometry.sidereal, position), 0)
-}
-
-// An accepted instant from a position, of a body and by an edition: the shot of the body, where both are known.
-fn shot_of(
-    t: &SineTable,
+// What both bodies share at an accepted instant: its epochs, the arguments, the frame of the date and Greenwich sidereal time.
+#[derive(Clone, Copy)]
+struct Astrometry {
     epochs: Epochs,
-    position: Position,
-    body: i64,
-    options: Options,
-) -> Outcome
-    requires { (t.now ≡ entries) × (InSpan epochs.universal × InSpan epochs.ephemeris) × PositionSized position }
-    ensures { (shot_values result ≡ shot_of epochs position body options) × ShotReduced (shot_values result) }
-{
-    let astrometry = astrometry_of(t, epochs);
-    if body == 1 {
-        sun_shot(t, options.edition, astrometry, position)
-    } else {
-        polaris_shot(t, astrometry, position)
+    arguments: [i64; arguments::COUNT],
+    frame: Frame,
+    sidereal: u64,
+    ghost known: { IsAstrometry epochs arguments frame sidereal },
+}
+
+impl Astrometry {
+    // The astrometry of two epochs: all by ephemeris time, and sidereal time by universal time too.
+    fn of(epochs: Epochs) -> Astrometry
+        requires { EpochsSized epochs }
+        ensures { result.epochs ≡ epochs }
+    {
+        let e = epochs.ephemeris;
+        let arguments = arguments::arguments_of(e);
+        let frame = frame::frame_of(&arguments, e);
+        let sidereal = frame::sidereal_time(epochs.universal, frame.dpsi, frame.epsilon);
+        Astrometry {
+            epochs,
+            arguments,
+            frame,
+            sidereal,
+        }
+    }
+
+    // A body in direction d from a position, with the longitude s that its answer gives.
+    fn sighted_shot(&self, d: Direction, s: u64, position: Position) -> Result<ShotAngles, Refusal>
+        requires { (squared_length d + 2 * growth ≤ reach) × (s < turn) × PositionSized position }
+        ensures { (shot_values result ≡ sighted_shot (view_at self.now.epochs position d) s) × ShotReduced (shot_values result) }
+    {
+        let sight = horizon::sight(d, self.sidereal, position)?;
+        Ok(ShotAngles {
+            azimuth: sight.azimuth,
+            zenith_distance: sight.zenith_distance,
+            hour_angle: sight.hour_angle,
+            longitude: s,
+        })
+    }
+
+    // The Sun from a position, by an edition of its series.
+    fn sun_shot(&self, edition: i64, position: Position) -> Result<ShotAngles, Refusal>
+        requires { PositionSized position }
+        ensures { (shot_values result ≡ sun_shot edition self.now.epochs position) × ShotReduced (shot_values result) }
+    {
+        let e = self.epochs.ephemeris;
+        let f = self.frame;
+        let s = sun::apparent_longitude(edition, &self.arguments, e, f.dpsi, sun::ABERRATION);
+        let d = sun::direction(s, f.epsilon);
+        self.sighted_shot(d, s, position)
+    }
+
+    // Polaris from a position.
+    fn polaris_shot(&self, position: Position) -> Result<ShotAngles, Refusal>
+        requires { PositionSized position }
+        ensures { (shot_values result ≡ polaris_shot self.now.epochs position) × ShotReduced (shot_values result) }
+    {
+        let e = self.epochs.ephemeris;
+        let f = self.frame;
+        let g = sun::centre_longitude(&self.arguments, e);
+        let d = polaris::direction(e, f.epsilon0, f.dpsi, f.epsilon, g);
+        self.sighted_shot(d, 0, position)
     }
 }
 
-// The same of any body and edition: their refusals, then the shot.
-fn shot_from(
-    t: &SineTable,
-    epochs: Epochs,
-    position: Position,
-    body: i64,
-    options: Options,
-) -> Outcome
-    requires { (t.now ≡ entries) × (InSpan epochs.universal × InSpan epochs.ephemeris) × PositionSized position }
-    ensures { (shot_values result ≡ shot_from epochs position body options) × ShotReduced (shot_values result) }
+// The shot with plain numbers, any numbers and options.
+pub fn shot(query: Query) -> Result<ShotAngles, Refusal>
+    ensures { (shot_values result ≡ shot query) × ShotReduced (shot_values result) }
 {
-    if !exact::between(1, body, 2) {
-        return Outcome::Refused(Refusal::NoBody);
-    }
+    let Query { numbers, options } = query;
+    let epochs = calendar::instant_of(numbers.time)?;
+    let position = site::position_of(numbers.site)?;
+    let body = Body::try_from(numbers.body)?;
     if !exact::between(1, options.edition, 2) {
-        return Outcome::Refused(Refusal::NoEdition);
+        return Err(Refusal::NoEdition);
     }
-    shot_of(t, epochs, position, body, options)
-}
-
-// An accepted instant from any site, of any body, with any options.
-fn shot_at(t: &SineTable, epochs: Epochs, site: Site, body: i64, options: Options) -> Outcome
-    requires { (t.now ≡ entries) × (InSpan epochs.universal × InSpan epochs.ephemeris) }
-    ensures { (shot_values result ≡ shot_at epochs site body options) × ShotReduced (shot_values result) }
-{
-    match site::position_of(site) {
-        Located::At(position) => shot_from(t, epochs, position, body, options),
-        Located::Refused(refusal) => Outcome::Refused(refusal),
+    let astrometry = Astrometry::of(epochs);
+    match body {
+        Body::Sun => astrometry.sun_shot(options.edition, position),
+        Body::Polaris => astrometry.polaris_shot(position),
     }
 }
 
-// The shot with plain numbers, any numbers and options, with the sine's table lent: a caller of many shots names it once.
-pub fn shot_with(t: &SineTable, query: Query) -> Outcome
-    requires { t.now ≡ entries }
-    ensures { (shot_values result ≡ shot query) × ShotReduced (shot_values result) }
+// The shot from a card, with any options: refusal 1 where a field is not confirmed, else the shot with its confirmed numbers.
+pub fn shot_from_card(card: &Card, options: Options) -> Result<ShotAngles, Refusal>
+    ensures { (shot_values result ≡ shot_from_card card.now options) × ShotReduced (shot_values result) }
 {
-    let numbers = query.numbers;
-    let options = query.options;
-    match calendar::instant_of(numbers.time) {
-        Instant::Accepted(epochs) => shot_at(t, epochs, numbers.site, numbers.body, options),
-        Instant::Refused(refusal) => Outcome::Refused(refusal),
-    }
-}
-
-// The same, with a table of its own.
-pub fn shot(query: Query) -> Outcome
-    ensures { (shot_values result ≡ shot query) × ShotReduced (shot_values result) }
-{
-    let t = sine_table::table();
-    shot_with(&t, query)
-}
-
-// An outcome, with the card that it came from.
-fn with_card(outcome: Outcome, card: Card) -> CardShot
-    ensures { (result.outcome ≡ outcome) × (result.card ≡ card) }
-{
-    CardShot {
-        outcome: outcome,
-        card: card,
-    }
-}
-
-// The shot from a card, with any options and the sine's table lent: refusal 1 where a field is not confirmed, else the shot with its
-// confirmed numbers. The card is answered as it was given.
-pub fn shot_from_card_with(t: &SineTable, card: Card, options: Options) -> CardShot
-    requires { t.now ≡ entries }
-    ensures { (shot_values result.outcome ≡ shot_from_card card options) × (result.card ≡ card) × ShotReduced (shot_values result.outcome) }
-{
-    let confirmed = card::confirmed_numbers(card);
-    let verdict = confirmed.verdict;
-    let fields = confirmed.numbers;
-    let query = query_with(&fields, options);
-    match verdict {
-        Verdict::Accepted => with_card(shot_with(t, query), card),
-        Verdict::Refused(refusal) => with_card(Outcome::Refused(refusal), card),
-    }
-}
-
-// The same, with a table of its own.
-pub fn shot_from_card(card: Card, options: Options) -> CardShot
-    ensures { (shot_values result.outcome ≡ shot_from_card card options) × (result.card ≡ card) × ShotReduced (shot_values result.outcome) }
-{
-    let t = sine_table::table();
-    shot_from_card_with(&t, card, options)
+    let fields = card.confirmed_numbers()?;
+    shot(query_with(&fields, options))
 }

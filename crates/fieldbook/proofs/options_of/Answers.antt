@@ -21,11 +21,11 @@ unfolding options_of
 some [] h = absurd (omega arith)
 some (x ∷ l) h = refl
 
-pub returns-then-list-eq0 : goal.returns-then-list-eq0
-returns-then-list-eq0 c = none c.args.list.now c.if-list-eq0.true
+pub returns-in-empty : goal.returns-in-empty
+returns-in-empty c = none c.args.list.now (omega arith)
 
-pub returns : goal.returns
-returns c =
+pub returns-in-len1-up : goal.returns-in-len1-up
+returns-in-len1-up c =
     let l = c.args.list.now in
     let fit : SFits w64 (get_or l 0 (pos 0)) = record { sfits = omega arith } in
     simp (to_z-of_z, fit) (some l (omega arith))

@@ -5,4 +5,4 @@ use Rattle.fieldbook.specs.declared.Numbers.{Numbers}
 use Rattle.fieldbook.proofs.query_with.Goals as goal
 
 pub returns : goal.returns
-returns c = ap (λ (x : Numbers). query x c.args.options) c.numbers_of-numbers.ensures
+returns c = ap (λ (x : Numbers). query x c.args.options) c.numbers_of.ensures

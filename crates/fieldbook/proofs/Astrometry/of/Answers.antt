@@ -8,11 +8,11 @@ use Rattle.exact.proofs.Machine.{fits_lt, fits_le}
 use Rattle.frame.specs.FrameContract.{IsFrame}
 use Rattle.frame.specs.declared.Frame.{Frame}
 use Rattle.fieldbook.specs.Shot.{sidereal_at}
-use Rattle.fieldbook.proofs.astrometry_of.Goals as goal
+use Rattle.fieldbook.proofs.Astrometry.of.Goals as goal
 
-pub returns : goal.returns
+pub invariant_of-result : goal.invariant_of-result
 unfolding sidereal_at
-returns c =
+invariant_of-result c =
     let f : Frame = c.frame_of-frame.result in
     let frame_is : IsFrame c.arguments_of-arguments.result c.args.epochs.ephemeris.q f = c.frame_of-frame.ensures in
     let dpsi-fits : SFits w64 f.dpsi = fits_le (2 ^ 20) f.dpsi frame_is.dpsi-size refl in
@@ -21,14 +21,14 @@ returns c =
     (let e = simp (to_z-of_z, dpsi-fits, epsilon-fits) at c.sidereal_time-sidereal.ensures.0 in
     let a = c.arguments_of-arguments.ensures.0 in
     let n = frame_is.dpsi in
-    let o = frame_is.epsilon in cc) in (
-      refl,
-      record {
-        span = c.requires.1.1;
+    let o = frame_is.epsilon in cc) in
+    record {
+      known = record {
+        span = c.requires.ephemeris;
         arguments = c.arguments_of-arguments.ensures.0;
         all = c.arguments_of-arguments.ensures.1;
         frame = frame_is;
         sidereal = sidereal-is;
         sidereal-size = c.sidereal_time-sidereal.ensures.1;
-      },
-    )
+      };
+    }
