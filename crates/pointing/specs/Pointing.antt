@@ -1,15 +1,14 @@
 -- Document 02, request 1 (RULES.md, "The mark"): what a pointing answers, by its shot and the horizontal angle from the mark to the body, clockwise.
 -- Angles are in units of 0.0001″.
-use Rattle.std.specs.Prelude.{List, [], ◌∷◌, ℕ, ◌<◌, eqb, ℤ, pos, ◌-ℤ◌}
+use Rattle.std.specs.Prelude.{List, [], ◌∷◌, ℕ, ◌<◌, eqb, ℤ, pos, ◌-ℤ◌, Result, Ok, Err}
 use Rattle.refusal.specs.RefusalNumbers.{number_of}
 use Rattle.refusal.specs.Tests.{Test, test, decided}
+use Rattle.refusal.specs.declared.Refusal.{Refusal}
 use Rattle.exact.specs.Reduction.{turn, is_reduced, reduced}
 use Rattle.card.specs.declared.Card.{Card}
 use Rattle.fieldbook.specs.Shot.{ShotValues, shot, shot_from_card}
 use Rattle.fieldbook.specs.declared.Options.{Options}
 use Rattle.fieldbook.specs.declared.Query.{Query}
-use Rattle.pointing.specs.declared.Mark.{Mark}
-use Rattle.pointing.specs.declared.Mark.TheVariants.{Azimuth, Refused}
 
 -- the refusal's number, 0 where there is none, and the mark's azimuth, 0 where it is refused
 pub record PointingValues : Type 0 where
@@ -23,9 +22,9 @@ abbrev pub refused : ℕ → PointingValues
 refused k = record { refusal = k; mark = 0 }
 
 -- the number and the value of each case of the code's answer
-abbrev pub pointing_values : Mark → PointingValues
-pointing_values (Azimuth mark) = answered mark
-pointing_values (Refused r) = refused (number_of r)
+abbrev pub pointing_values : Result ℕ Refusal → PointingValues
+pointing_values (Ok mark) = answered mark
+pointing_values (Err r) = refused (number_of r)
 
 -- the mark's azimuth is below a full circle
 abbrev pub MarkReduced : PointingValues → Type 0
