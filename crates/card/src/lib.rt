@@ -1,7 +1,7 @@
 // The card of spoken fields. A number counts only after it was heard, read out and confirmed. A refused call leaves the card as it was.
 #![tactic(auto)]
 
-ghost use Rattle.std.specs.Prelude.{◌≡◌, true, ◌<◌, ◌^◌, nat_abs, IfOk};
+ghost use Rattle.std.specs.Prelude.{◌≡◌, ◌<◌, ◌^◌, nat_abs, IfOk};
 ghost use Rattle.card.specs.Fields.{number_held, number_in, field_count, is_field, index_of, field_of, from_parts, fresh_card, fresh_with_dut1_assumed_zero};
 ghost use Rattle.card.specs.Calls.{card_values, read_values, hear, confirm, undo, read_state, read, buffer_after};
 ghost use Rattle.card.specs.Confirmed.{confirmed_values, confirmed_numbers};

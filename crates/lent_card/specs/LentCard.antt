@@ -1,13 +1,12 @@
--- Document 02, request 6: the calls on a card in lent words (RULES.md, "A card in words"). Words that are no card are refused by a number that no rule
+-- The calls on a card in lent words (RULES.md, "A card in words"). Words that are no card are refused by a number that no rule
 -- has, before any other test; else a call on the card that they are gives the answer, and its card's words come in their place.
-use Rattle.std.specs.Prelude.{List, [], ◌∷◌, ℕ, eqb, ℤ, length}
+use Rattle.std.specs.Prelude.{◌≡◌, Result, MatchOption, List, [], ◌∷◌, ℕ, eqb, ℤ, length}
 use Rattle.refusal.specs.Tests.{test, decided}
 use Rattle.card.specs.Fields.{fresh_card}
-use Rattle.card.specs.Calls.{CardValues, ReadValues, hear, confirm, undo, read, buffer_after}
-use Rattle.card_words.specs.Words.{word_count, card_words, is_card, card_of}
+use Rattle.refusal.specs.declared.Refusal.{Refusal}
+use Rattle.card.specs.Calls.{CardValues, card_values, ReadValues, hear, confirm, undo, read, buffer_after}
+use Rattle.card_words.specs.Words.{word_count, card_words, is_card, card_of, restored_from}
 use Rattle.card.specs.declared.Card.{Card}
-use Rattle.lent_card.specs.declared.Call.{Call}
-use Rattle.lent_card.specs.declared.Call.TheVariants.{Hear, Confirm, Undo}
 use Rattle.lent_card.specs.declared.ReadAnswer.{ReadAnswer}
 
 -- the number
@@ -30,13 +29,13 @@ words_values refusal ws = record { refusal = refusal; words = ws }
 abbrev pub into_words : CardValues → WordsValues
 into_words v = words_values v.refusal (card_words v.card)
 
-abbrev pub call_on : Call → Card → CardValues
-call_on (Hear f z) c = hear c f z
-call_on (Confirm f) c = confirm c f
-call_on Undo c = undo c
-
 abbrev pub call_words : List ℤ → (Card → CardValues) → WordsValues
 call_words ws call = with_card ws (λ c. into_words (call c)) (λ k. words_values k ws)
+
+-- the same of a call of which `Returns c r d` says that on card c it may answer r and leave card d
+pub record CalledOn (Returns : Card → Result Unit Refusal → Card → Type 0) (ws : List ℤ) (v : WordsValues) : Type 0 where
+  pub called : MatchOption (restored_from ws) (v ≡ words_values no_card ws)
+      (λ c. (r : Result Unit Refusal) × (d : Card) × Returns c r d × (v ≡ into_words (card_values r d)))
 
 -- ---- the calls
 -- a fresh card asks only for room
