@@ -7,7 +7,7 @@ use native.Mathlib.Omega.{arith}
 use lib.IntN.{ℤ, pos}
 use lib.ListN.{length, get_or, set, drop, drop_of_length-le, length-map}
 use lib.Seq.{sets, sets-eq, drop-cons}
-use Rattle.epoch.specs.declared.Epoch.{Epoch}
+use Rattle.epoch.specs.Epoch.{Epoch}
 use Rattle.arguments.specs.Argument.{argument, arguments_by}
 use Rattle.arguments.specs.Rows.{coefficients}
 

@@ -5,7 +5,7 @@ use Rattle.exact.specs.Century.{century}
 use Rattle.exact.specs.Division.{floor_div}
 use Rattle.exact.specs.Nth.{nth}
 use Rattle.secular.specs.FlooredPolynomial.{polynomial, value}
-use Rattle.epoch.specs.declared.Epoch.{Epoch}
+use Rattle.epoch.specs.Epoch.{Epoch}
 
 -- c1 goes with N itself, c0 and c2 are a floored polynomial in q; the sum is reduced
 unfoldable pub argument : List ℤ → Epoch → ℕ

@@ -2,7 +2,7 @@
 -- whole units.
 use Rattle.std.specs.Prelude.{List, [], ◌∷◌, ◌++◌, map, ℕ, ℤ}
 use Rattle.exact.specs.Decimal.{Decimal, plus, minus, degrees}
-use Rattle.epoch.specs.declared.Epoch.{Epoch}
+use Rattle.epoch.specs.Epoch.{Epoch}
 use Rattle.arguments.specs.Argument.{arguments_by}
 
 abbrev row : Decimal → Decimal → Decimal → List Decimal

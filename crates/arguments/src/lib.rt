@@ -5,7 +5,6 @@ mod tables;
 
 ghost use Rattle.std.specs.Prelude.{◌≡◌, map, ◌<◌, length};
 ghost use Rattle.exact.specs.Reduction.{turn};
-ghost use Rattle.epoch.specs.Sizes.{InSpan};
 ghost use Rattle.arguments.specs.Argument.{argument, arguments_by};
 ghost use Rattle.arguments.specs.PrintedArguments.{further_rows, arguments_of, full_arguments_of};
 ghost use Rattle.arguments.specs.Rows.{coefficients};
@@ -19,7 +18,7 @@ pub use tables::{
 
 // The angle of a stored row at an epoch.
 pub fn argument(row: [i64; 4], e: Epoch) -> u64
-    requires { RowSized row × InSpan e }
+    requires { RowSized row }
     ensures { (result ≡ argument (coefficients row) e) × (result < turn) }
 {
     let [c0, whole, part, c2] = row;
@@ -34,7 +33,7 @@ pub fn argument(row: [i64; 4], e: Epoch) -> u64
 
 // The angles of any table of rows, one for each.
 fn fill(angles: &mut [i64], rows: &[[i64; 4]], e: Epoch)
-    requires { (length angles.old ≡ length rows.now) × RowsSized rows.now × InSpan e }
+    requires { (length angles.old ≡ length rows.now) × RowsSized rows.now }
     ensures { angles.new ≡ arguments_by (map coefficients rows.now) e }
 {
     for (i, row) in rows.iter().enumerate() {
@@ -44,7 +43,6 @@ fn fill(angles: &mut [i64], rows: &[[i64; 4]], e: Epoch)
 
 // The arguments of an epoch, in the order of the table.
 pub fn arguments_of(e: Epoch) -> [i64; COUNT]
-    requires { InSpan e }
     ensures { (result ≡ arguments_of e) × IsArguments result }
 {
     let mut angles = [0i64; COUNT];
@@ -54,7 +52,7 @@ pub fn arguments_of(e: Epoch) -> [i64; COUNT]
 
 // The arguments of an epoch, and behind them the four angles that the full edition of the Sun's series takes besides.
 pub fn full_arguments_of(arguments: &[i64; COUNT], e: Epoch) -> [i64; FULL_COUNT]
-    requires { (arguments.now ≡ arguments_of e) × InSpan e }
+    requires { arguments.now ≡ arguments_of e }
     ensures { (result ≡ full_arguments_of e) × IsFullArguments result }
 {
     let mut angles = [0i64; FULL_COUNT];

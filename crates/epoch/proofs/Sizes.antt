@@ -12,9 +12,8 @@ use Rattle.exact.specs.Division.{floor_div}
 use Rattle.exact.proofs.Differences.{split, zs}
 use Rattle.exact.proofs.Division.{floor-mono}
 use Rattle.exact.proofs.Machine.{fits_lt, fits_le}
-use Rattle.epoch.specs.Epoch.{millionths, first_millionth, last_millionth}
+use Rattle.epoch.specs.Epoch.{Epoch, millionths, first_millionth, last_millionth}
 use Rattle.epoch.specs.Sizes.{Span, InSpan}
-use Rattle.epoch.specs.declared.Epoch.{Epoch}
 
 pub span-size : (n : ℤ) → Span n → nat_abs n < 2 ^ 43
 span-size n = rw (split n) (simp zs (omega arith))

@@ -2,7 +2,11 @@
 use Rattle.std.specs.Prelude.{ℕ, ℤ, pos, ◌*ℤ◌}
 use Rattle.exact.specs.Century.{century}
 use Rattle.exact.specs.Division.{floor_div}
-use Rattle.epoch.specs.declared.Epoch.{Epoch}
+
+-- an instant as the theory takes it: N, in milliseconds since 1900 January 0.5, and q, the millionths of a Julian century in it
+pub record Epoch : Type 0 where
+  pub n : ℤ
+  pub q : ℤ
 
 -- 01's q: the millionths of a century in N, rounded down
 unfoldable pub millionths : ℤ → ℤ

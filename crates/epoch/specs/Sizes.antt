@@ -1,7 +1,6 @@
 -- How large the numbers of an epoch are, so that no step of the theory leaves 64 bits.
 use Rattle.std.specs.Prelude.{◌≡◌, ℤ, pos, ◌≤ℤ◌}
-use Rattle.epoch.specs.Epoch.{millionths}
-use Rattle.epoch.specs.declared.Epoch.{Epoch}
+use Rattle.epoch.specs.Epoch.{Epoch, millionths}
 
 -- N of an accepted instant, by universal or ephemeris time: from 1976-01-01 with DUT1 −900 and ΔT 0 to the leap second of 2049-12-31 with DUT1 900 and
 -- ΔT 120,000 ms

@@ -9,7 +9,7 @@ use Rattle.refusal.specs.declared.Refusal.{Refusal}
 use Rattle.exact.specs.Reduction.{turn}
 use Rattle.exact.specs.Range.{between}
 use Rattle.exact.specs.Nth.{nth}
-use Rattle.epoch.specs.declared.Epoch.{Epoch}
+use Rattle.epoch.specs.Epoch.{Epoch}
 use Rattle.calendar.specs.Time.{instant_epochs, instant_tests}
 use Rattle.calendar.specs.declared.Epochs.{Epochs}
 use Rattle.arguments.specs.PrintedArguments.{arguments_of}

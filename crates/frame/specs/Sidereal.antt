@@ -8,7 +8,7 @@ use Rattle.exact.specs.Nth.{nth}
 use Rattle.secular.specs.FlooredPolynomial.{polynomial, value}
 use Rattle.sine_table.specs.Table.{R}
 use Rattle.sine.specs.Sine.{Cos}
-use Rattle.epoch.specs.declared.Epoch.{Epoch}
+use Rattle.epoch.specs.Epoch.{Epoch}
 
 -- what it has beyond the time since midnight: 6h 38m 45.836s + 8640184.542s T + 0.0929s T²
 unfoldable pub sidereal : List ℤ

@@ -7,7 +7,7 @@ use Rattle.exact.specs.Reduction.{reduced}
 use Rattle.secular.specs.FlooredPolynomial.{polynomial, value}
 use Rattle.sine_table.specs.Table.{R}
 use Rattle.sine.specs.Sine.{Cos}
-use Rattle.epoch.specs.declared.Epoch.{Epoch}
+use Rattle.epoch.specs.Epoch.{Epoch}
 use Rattle.arguments.specs.PrintedArguments.{Ms, arguments_of}
 use Rattle.sun.specs.Longitude.{equation_of_centre}
 

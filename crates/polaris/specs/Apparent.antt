@@ -4,7 +4,7 @@ use Rattle.exact.specs.Division.{nearest_div}
 use Rattle.sine_table.specs.Table.{R}
 use Rattle.sine.specs.Sine.{Sin, Cos}
 use Rattle.rotation.specs.Rotation.{rotated, rotation1, rotation2, rotation3, sin_of, cos_of}
-use Rattle.epoch.specs.declared.Epoch.{Epoch}
+use Rattle.epoch.specs.Epoch.{Epoch}
 use Rattle.polaris.specs.Elements.{tropical_millionths, elements_of}
 use Rattle.polaris.specs.declared.Elements.{Elements}
 

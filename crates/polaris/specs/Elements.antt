@@ -2,7 +2,7 @@
 use Rattle.std.specs.Prelude.{ℕ, ℤ, pos, ◌+ℤ◌, ◌-ℤ◌, ◌*ℤ◌}
 use Rattle.exact.specs.Division.{floor_div}
 use Rattle.secular.specs.FlooredPolynomial.{value}
-use Rattle.epoch.specs.declared.Epoch.{Epoch}
+use Rattle.epoch.specs.Epoch.{Epoch}
 use Rattle.polaris.specs.PrintedElements.{right_ascension, declination, zeta, z_less_zeta, theta}
 use Rattle.polaris.specs.declared.Elements.{Elements}
 

@@ -5,7 +5,7 @@ use Rattle.refusal.specs.declared.Refusal.{Refusal}
 use Rattle.refusal.specs.Tests.{decided}
 use Rattle.exact.specs.Nth.{nth}
 use Rattle.exact.specs.Reduction.{short_way}
-use Rattle.epoch.specs.declared.Epoch.{Epoch}
+use Rattle.epoch.specs.Epoch.{Epoch}
 use Rattle.calendar.specs.Time.{instant_epochs, instant_tests}
 use Rattle.calendar.specs.declared.CivilTime.{CivilTime}
 use Rattle.sun.specs.Longitude.{aberration, apparent_longitude}

@@ -14,7 +14,7 @@ use Rattle.exact.proofs.Choice.{not-decided}
 use Rattle.exact.proofs.Differences.{split, zs}
 use Rattle.sine_table.specs.Table.{R}
 use Rattle.sine.specs.Sine.{Sin}
-use Rattle.epoch.specs.declared.Epoch.{Epoch}
+use Rattle.epoch.specs.Epoch.{Epoch}
 use Rattle.arguments.specs.Argument.{arguments_by}
 use Rattle.arguments.specs.PrintedArguments.{P1, P2, P3, P4, rows, further_rows, arguments_of, full_arguments_of}
 use Rattle.series.specs.Term.{Term, value}

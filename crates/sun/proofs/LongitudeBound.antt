@@ -16,7 +16,7 @@ use Rattle.secular.specs.Sizes.{most_millionths, most}
 use Rattle.sine_table.specs.Table.{R}
 use Rattle.sine.specs.SineContract.{sine_tolerance}
 use Rattle.epoch.specs.Sizes.{InSpan}
-use Rattle.epoch.specs.declared.Epoch.{Epoch}
+use Rattle.epoch.specs.Epoch.{Epoch}
 use Rattle.epoch.proofs.Sizes.{q-range, q-size}
 use Rattle.calendar.specs.Time.{instant_of, accepted}
 use Rattle.calendar.specs.declared.CivilTime.{CivilTime}

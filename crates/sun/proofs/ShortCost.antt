@@ -16,7 +16,7 @@ use Rattle.exact.proofs.Division.{floor-abs}
 use Rattle.exact.proofs.Integers.{abs-*-le}
 use Rattle.secular.specs.FlooredPolynomial as secular
 use Rattle.epoch.specs.Epoch.{last_millionth}
-use Rattle.epoch.specs.declared.Epoch.{Epoch}
+use Rattle.epoch.specs.Epoch.{Epoch}
 use Rattle.arguments.specs.Argument.{arguments_by}
 use Rattle.arguments.specs.PrintedArguments.{rows, further_rows, arguments_of, full_arguments_of}
 use Rattle.series.specs.Sum.{table_sum, amplitudes}

@@ -3,7 +3,7 @@ use Rattle.std.specs.Prelude.{Bool, cond, List, ℤ, pos}
 use Rattle.std.proofs.Math.Bool.{decide}
 use Rattle.std.proofs.Math.IntN.{ℤ_discrete}
 use Rattle.exact.specs.Range.{between}
-use Rattle.epoch.specs.declared.Epoch.{Epoch}
+use Rattle.epoch.specs.Epoch.{Epoch}
 use Rattle.arguments.specs.PrintedArguments.{arguments_of, full_arguments_of}
 use Rattle.series.specs.Term.{Term}
 use Rattle.sun.specs.Series.{short_terms, full_terms}

@@ -2,7 +2,7 @@
 use Rattle.std.specs.Prelude.{◌≡◌, List, ℕ, ◌≤◌, ◌<◌, ℤ, pos, ◌+ℤ◌, ◌-ℤ◌, get_or}
 use Rattle.exact.specs.Reduction.{turn, reduced, short_way}
 use Rattle.exact.specs.Decimal.{plus, arc_seconds}
-use Rattle.epoch.specs.declared.Epoch.{Epoch}
+use Rattle.epoch.specs.Epoch.{Epoch}
 use Rattle.arguments.specs.PrintedArguments.{L}
 use Rattle.series.specs.Term.{Term}
 use Rattle.series.specs.Sum.{table_sum, polynomial_sum}

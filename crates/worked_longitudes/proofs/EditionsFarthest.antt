@@ -15,7 +15,7 @@ use Rattle.sine_table.specs.SinePolynomial.{arc, whole, poly_den, cofactor, term
 use Rattle.sine_table.specs.Table.{entry_by}
 use Rattle.sine.specs.Sine.{sin_quadrant, Sin}
 use Rattle.epoch.specs.Epoch.{millionths, epoch}
-use Rattle.epoch.specs.declared.Epoch.{Epoch}
+use Rattle.epoch.specs.Epoch.{Epoch}
 use Rattle.calendar.specs.Date.{leap_year, month_length, year_days, month_days, day_count, is_date}
 use Rattle.calendar.specs.Time.{leap_second_day, last_millisecond, is_time, day_millisecond, is_dut1, is_delta_t, since1900, instant}
 use Rattle.calendar.specs.declared.CivilTime.{CivilTime}

@@ -3,7 +3,7 @@ use mathlib.Core.Path.{◌≡◌}
 use Prim.Native.Nat.{ℕ}
 use lib.IntN.{ℤ}
 use Rattle.exact.specs.Reduction.{short_way}
-use Rattle.epoch.specs.declared.Epoch.{Epoch}
+use Rattle.epoch.specs.Epoch.{Epoch}
 use Rattle.calendar.specs.Time.{instant_of, accepted}
 use Rattle.calendar.specs.declared.CivilTime.{CivilTime}
 use Rattle.calendar.specs.declared.Epochs.{Epochs}

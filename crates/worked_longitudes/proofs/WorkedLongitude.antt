@@ -10,7 +10,7 @@ use Rattle.secular.specs.FlooredPolynomial as secular
 use Rattle.sine_table.specs.SinePolynomial.{arc, whole, poly_den, cofactor, term, poly_num}
 use Rattle.sine.specs.Sine.{poly_at}
 use Rattle.epoch.specs.Epoch.{millionths}
-use Rattle.epoch.specs.declared.Epoch.{Epoch}
+use Rattle.epoch.specs.Epoch.{Epoch}
 use Rattle.calendar.specs.Date.{leap_year, year_days, month_days, day_count}
 use Rattle.calendar.specs.Time.{day_millisecond, since1900, instant, instant_epochs}
 use Rattle.arguments.specs.Argument.{argument}

@@ -1,5 +1,5 @@
 -- The linear part by N and the rest by q, for any stored row of the sizes stated.
-use mathlib.Core.Path.{◌≡◌, refl, ap₂, subst⁻¹, ◌∙◌}
+use mathlib.Core.Path.{◌≡◌, refl, ap₂, subst, subst⁻¹, ◌∙◌}
 use mathlib.Core.List.{List}
 use Prim.Native.Nat.{◌*◌, ◌≤◌, ◌<◌, ◌^◌}
 use native.Mathlib.Omega.{arith}
@@ -19,8 +19,10 @@ use Rattle.exact.proofs.Integers.{abs-*-lt}
 use Rattle.exact.proofs.Machine.{ok-fits, fits_lt, fits_le}
 use Rattle.secular.specs.FlooredPolynomial.{polynomial, value}
 use Rattle.secular.specs.Sizes as Secular
+use Rattle.epoch.specs.Epoch.{Epoch}
 use Rattle.epoch.proofs.Sizes.{n-size, q-size, n-fits, q-fits}
 use Rattle.arguments.specs.Argument.{argument}
+use Rattle.arguments.specs.Rows.{coefficients}
 use Rattle.arguments.specs.Sizes.{RowSized}
 use Rattle.arguments.proofs.argument.Goals.{After-value}
 use Rattle.arguments.proofs.argument.Goals as goal
@@ -58,11 +60,11 @@ module _ (c : After-value) where
   abbrev linear : ℤ
   linear = c.per_century.result
 
-  linear-is : linear ≡ floor_div ((pos century *ℤ nth row 1 +ℤ nth row 2) *ℤ c.args.e.n) century
-  linear-is = let f = fit row c.requires.0 in simp (to_z-of_z, f.1, f.2, n-fits c.requires.1) at c.per_century.ensures
+  linear-is : linear ≡ floor_div ((pos century *ℤ nth row 1 +ℤ nth row 2) *ℤ c.e.inside.n) century
+  linear-is = let f = fit row c.requires in simp (to_z-of_z, f.1, f.2, n-fits c.e.invariant) at c.per_century.ensures
 
-  rest-is : c.value.result ≡ value (polynomial (nth row 0) (pos 0) (nth row 3) (10 ^ 12)) c.args.e.q
-  rest-is = let f = fit row c.requires.0 in simp (to_z-of_z, f.0, f.3, q-fits c.requires.1) at c.value.ensures.0
+  rest-is : c.value.result ≡ value (polynomial (nth row 0) (pos 0) (nth row 3) (10 ^ 12)) c.e.inside.q
+  rest-is = let f = fit row c.requires in simp (to_z-of_z, f.0, f.3, q-fits c.e.invariant) at c.value.ensures.0
 
   both-fit : SFits w64 linear × SFits w64 c.value.result
   both-fit = (ok-fits linear c.per_century.type_inv, ok-fits c.value.result c.value.type_inv)
@@ -70,16 +72,16 @@ module _ (c : After-value) where
   sum : SFits w64 (linear +ℤ c.value.result) × (nat_abs (linear +ℤ c.value.result) ≤ 2 ^ 61)
   unfolding Secular.most
   sum =
-      let h = c.requires.0 in
+      let h = c.requires in
       let f = fit row h in
-      let l = linear-le (nth row 1) (nth row 2) c.args.e.n h.whole h.rest (n-size c.requires.1) in
+      let l = linear-le (nth row 1) (nth row 2) c.e.inside.n h.whole h.rest (n-size c.e.invariant) in
       let v = simp (to_z-of_z, f.0, f.3) at c.value.ensures.1 in
       sum-in linear c.value.result (subst⁻¹ (λ (z : ℤ). nat_abs z ≤ 2 ^ 49) linear-is l) (omega (arith, v, h.c0, h.c2))
 
 pub value-requires : goal.value-requires
 value-requires c =
-    let f = fit c.args.row c.requires.0 in
-    simp (to_z-of_z, f.0, f.3, q-fits c.requires.1) (rest-sized c.args.row c.requires.0, q-size c.requires.1)
+    let f = fit c.args.row c.requires in
+    simp (to_z-of_z, f.0, f.3, q-fits c.e.invariant) (rest-sized c.args.row c.requires, q-size c.e.invariant)
 
 pub overflow_add-per_century : goal.overflow_add-per_century
 overflow_add-per_century c = let d = (goal.at.overflow_add-per_century c).After-value in simp (to_z-of_z, (both-fit d).0, (both-fit d).1) (sum d).0
@@ -92,4 +94,5 @@ unfolding argument
 returns c =
     let d = (goal.at.returns c).After-value in
     let e = simp (to_z-of_z, (both-fit d).0, (both-fit d).1, (sum d).0) at c.reduced_bounded.ensures.0 in
-    (e ∙ ap₂ (λ (a b : ℤ). reduced (a +ℤ b)) (linear-is d) (rest-is d), c.reduced_bounded.ensures.1)
+    let is = e ∙ ap₂ (λ (a b : ℤ). reduced (a +ℤ b)) (linear-is d) (rest-is d) in
+    (subst (λ (e : Epoch). c.reduced_bounded.result ≡ argument (coefficients c.args.row) e) c.e.view_is is, c.reduced_bounded.ensures.1)

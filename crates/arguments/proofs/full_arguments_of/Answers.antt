@@ -4,7 +4,7 @@ use mathlib.Core.List.{List, [], ◌∷◌, ◌++◌}
 use lib.IntN.{ℤ, pos}
 use borrow.Rule.Slice.PartMut.{put_mid}
 use Rattle.exact.specs.Division.{floor_div, nearest_div}
-use Rattle.epoch.specs.declared.Epoch.{Epoch}
+use Rattle.epoch.specs.Epoch.{Epoch}
 use Rattle.arguments.specs.Argument.{arguments_by}
 use Rattle.arguments.specs.PrintedArguments.{rows, further_rows, arguments_of, full_arguments_of}
 use Rattle.arguments.specs.Sizes.{IsFullArguments}
@@ -22,5 +22,5 @@ joined_is e = refl
 pub returns : goal.returns
 unfolding further_rows nearest_div floor_div
 returns c =
-    let is = ap₂ joined (c.copy_from_slice.ensures.after ∙ c.requires.0) c.fill.ensures ∙ joined_is c.args.e in
+    let is = ap₂ joined (c.copy_from_slice.ensures.after ∙ c.requires) c.fill.ensures ∙ joined_is c.args.e in
     (is, subst⁻¹ IsFullArguments is (are-full-arguments c.args.e))

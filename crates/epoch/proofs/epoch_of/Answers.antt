@@ -32,4 +32,7 @@ module _ (s : Start) where
   q-fits = record { sfits = omega (arith, span-size n s.requires) }
 
 pub returns : goal.returns
-returns c = simp (to_z-of_z, c.ranges.n, q-fits c) (ap (epoch (n c)) (q-is c), record { span = c.requires; millionths = q-is c })
+returns c = simp (to_z-of_z, c.ranges.n, q-fits c) (ap (epoch (n c)) (q-is c))
+
+pub invariant_of-result : goal.invariant_of-result
+invariant_of-result c = simp (to_z-of_z, c.ranges.n, q-fits c) (record { span = c.requires; millionths = q-is c })

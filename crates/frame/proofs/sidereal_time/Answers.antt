@@ -14,7 +14,7 @@ use Rattle.exact.proofs.Differences.{split, zs}
 use Rattle.exact.proofs.Machine.{ok-fits}
 use Rattle.exact.proofs.Reduction.{reduced-part}
 use Rattle.secular.specs.FlooredPolynomial.{polynomial, value}
-use Rattle.epoch.specs.declared.Epoch.{Epoch}
+use Rattle.epoch.specs.Epoch.{Epoch}
 use Rattle.epoch.proofs.Sizes.{n-size, n-fits}
 use Rattle.arguments.specs.Argument.{argument}
 use Rattle.frame.specs.Sidereal.{sidereal, equinoxes, sidereal_time}

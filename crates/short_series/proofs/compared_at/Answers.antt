@@ -5,7 +5,7 @@ use lib.IntN.{pos}
 use mir.Facts.{to_z-of_z}
 use Rattle.exact.specs.Division.{floor_div, nearest_div}
 use Rattle.exact.specs.Reduction.{short_way}
-use Rattle.epoch.specs.declared.Epoch.{Epoch}
+use Rattle.epoch.specs.Epoch.{Epoch}
 use Rattle.epoch.proofs.Sizes.{q-size, q-fits}
 use Rattle.sun.specs.Longitude.{aberration, apparent_longitude}
 use Rattle.sun.specs.ShortCost.{short_cost}

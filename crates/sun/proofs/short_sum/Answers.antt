@@ -9,7 +9,7 @@ use mir.Val.{SFits}
 use Rattle.exact.proofs.Machine.{ok-fits}
 use Rattle.sine_table.specs.Table.{R}
 use Rattle.sine.specs.Sine.{Sin}
-use Rattle.epoch.specs.declared.Epoch.{Epoch}
+use Rattle.epoch.specs.Epoch.{Epoch}
 use Rattle.epoch.proofs.Sizes.{q-size, q-fits}
 use Rattle.arguments.specs.PrintedArguments.{arguments_of}
 use Rattle.arguments.specs.Sizes.{IsArguments}
