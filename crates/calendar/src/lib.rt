@@ -1,10 +1,10 @@
 // The calendar: Gregorian dates, and the two epochs of an instant.
 #![tactic(auto)]
 
-ghost use Rattle.std.specs.Prelude.{◌≡◌, true, ◌≤◌, ◌<◌, nat_abs, take, IfOk};
+ghost use Rattle.std.specs.Prelude.{◌≡◌, true, ◌≤◌, ◌<◌, nat_abs, take};
 ghost use Rattle.calendar.specs.Date.{leap_year, months, total, month_length, is_date, year_days, day_count};
 ghost use Rattle.calendar.specs.Time.{leap_second_day, last_millisecond, is_time, day_millisecond, is_dut1, is_delta_t, instant, epochs_of, instant_of, instant_values};
-ghost use Rattle.calendar.specs.Sizes.{UniversalSpan, EpochsSized};
+ghost use Rattle.calendar.specs.Sizes.{UniversalSpan};
 
 use epoch::Epoch;
 use refusal::Refusal;
@@ -151,7 +151,7 @@ impl CivilTime {
 // The epochs of an accepted instant: of N, and of N with ΔT.
 fn epochs_of(n: i64, delta_t: i64) -> Epochs
     requires { UniversalSpan n × (is_delta_t delta_t ≡ true) }
-    ensures { (result ≡ epochs_of n delta_t) × EpochsSized result }
+    ensures { result ≡ epochs_of n delta_t }
 {
     Epochs {
         universal: epoch::epoch_of(n),
@@ -161,7 +161,7 @@ fn epochs_of(n: i64, delta_t: i64) -> Epochs
 
 // The instant of any eight numbers: its epochs, or the first refusal that applies.
 pub fn instant_of(t: CivilTime) -> Result<Epochs, Refusal>
-    ensures { (instant_values result ≡ instant_of t) × IfOk result EpochsSized }
+    ensures { instant_values result ≡ instant_of t }
 {
     if !is_date(t.year, t.month, t.day) {
         return Err(Refusal::NoDate);

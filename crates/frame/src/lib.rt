@@ -5,7 +5,6 @@ mod tables;
 
 ghost use Rattle.std.specs.Prelude.{◌≡◌, ◌≤◌, ◌<◌, ◌^◌, nat_abs};
 ghost use Rattle.exact.specs.Reduction.{turn};
-ghost use Rattle.epoch.specs.Sizes.{InSpan};
 ghost use Rattle.arguments.specs.Sizes.{IsArguments};
 ghost use Rattle.frame.specs.Nutation.{dpsi, deps};
 ghost use Rattle.frame.specs.Sidereal.{equinoxes, sidereal_time};
@@ -24,7 +23,7 @@ pub struct Frame {
 
 // Δψ of an epoch, from its arguments.
 pub fn dpsi(arguments: &[i64], e: Epoch) -> i64
-    requires { IsArguments arguments.now × InSpan e }
+    requires { IsArguments arguments.now }
     ensures { (result ≡ dpsi arguments.now e.q) × (nat_abs result ≤ 2 ^ 20) }
 {
     series::rounded_sum(
@@ -38,7 +37,7 @@ pub fn dpsi(arguments: &[i64], e: Epoch) -> i64
 
 // Δε of an epoch, from its arguments.
 fn deps(arguments: &[i64], e: Epoch) -> i64
-    requires { IsArguments arguments.now × InSpan e }
+    requires { IsArguments arguments.now }
     ensures { (result ≡ deps arguments.now e.q) × (nat_abs result ≤ 2 ^ 20) }
 {
     series::rounded_sum(
@@ -52,7 +51,7 @@ fn deps(arguments: &[i64], e: Epoch) -> i64
 
 // The frame of an epoch, from its arguments.
 pub fn frame_of(arguments: &[i64], e: Epoch) -> Frame
-    requires { IsArguments arguments.now × InSpan e }
+    requires { IsArguments arguments.now }
     ensures { IsFrame arguments.now e.q result }
 {
     let epsilon0 = arguments[arguments::EPSILON0];
@@ -76,7 +75,7 @@ fn equinoxes(dpsi: i64, epsilon: i64) -> i64
 // Greenwich sidereal time at an epoch of universal time, with the equation of the equinoxes. In a millisecond the Earth rotates by 150 units;
 // the day begins at midnight, and N counts from noon.
 pub fn sidereal_time(universal: Epoch, dpsi: i64, epsilon: i64) -> u64
-    requires { InSpan universal × (nat_abs dpsi ≤ 2 ^ 20) × (nat_abs epsilon < 2 ^ 35) }
+    requires { (nat_abs dpsi ≤ 2 ^ 20) × (nat_abs epsilon < 2 ^ 35) }
     ensures { (result ≡ sidereal_time universal dpsi epsilon) × (result < turn) }
 {
     let excess = arguments::argument(tables::SIDEREAL, universal) as i64;

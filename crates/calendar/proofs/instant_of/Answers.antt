@@ -13,14 +13,14 @@ unfolding instant_of
 returns-then-not-is_date c =
     let f : Fit c.args.t = search rules in
     let date = simp (to_z-of_z, f.year, f.month, f.day) at c.if-not-is_date.ensures in
-    (simp (sym date), tt)
+    simp (sym date)
 
 pub returns-then-not-is_time : goal.returns-then-not-is_time
 unfolding instant_of
 returns-then-not-is_time c =
     let f : Fit c.args.t = search rules in
     let date = simp (to_z-of_z, f.year, f.month, f.day) at c.if-not-is_date.ensures in
-    (simp (sym date, sym c.if-not-is_time.ensures), tt)
+    simp (sym date, sym c.if-not-is_time.ensures)
 
 pub returns-then-not-between : goal.returns-then-not-between
 unfolding instant_of is_dut1
@@ -28,7 +28,7 @@ returns-then-not-between c =
     let f : Fit c.args.t = search rules in
     let date = simp (to_z-of_z, f.year, f.month, f.day) at c.if-not-is_date.ensures in
     let dut1 = simp (to_z-of_z, f.dut1) at c.if-not-between.ensures in
-    (simp (sym date, sym c.if-not-is_time.ensures, sym dut1), tt)
+    simp (sym date, sym c.if-not-is_time.ensures, sym dut1)
 
 pub returns-then-not-between-2 : goal.returns-then-not-between-2
 unfolding instant_of is_dut1 is_delta_t
@@ -37,7 +37,7 @@ returns-then-not-between-2 c =
     let date = simp (to_z-of_z, f.year, f.month, f.day) at c.if-not-is_date.ensures in
     let dut1 = simp (to_z-of_z, f.dut1) at c.if-not-between.ensures in
     let delta_t = simp (to_z-of_z, f.delta_t) at c.if-not-between-2.ensures in
-    (simp (sym date, sym c.if-not-is_time.ensures, sym dut1, sym delta_t), tt)
+    simp (sym date, sym c.if-not-is_time.ensures, sym dut1, sym delta_t)
 
 pub instant-requires : goal.instant-requires
 unfolding is_dut1
@@ -61,6 +61,6 @@ returns c =
     let date = simp (to_z-of_z, f.year, f.month, f.day) at c.if-not-is_date.ensures in
     let dut1 = simp (to_z-of_z, f.dut1) at c.if-not-between.ensures in
     let delta_t = simp (to_z-of_z, f.delta_t) at c.if-not-between-2.ensures in
-    let e = (simp (to_z-of_z, ok-fits c.instant.result c.instant.type_inv, f.delta_t) at c.epochs_of.ensures.0)
+    let e = (simp (to_z-of_z, ok-fits c.instant.result c.instant.type_inv, f.delta_t) at c.epochs_of.ensures)
     ∙ ap (λ (z : ℤ). epochs_of z c.args.t.delta_t) c.instant.ensures.0 in
-    simp (sym date, sym c.if-not-is_time.ensures, sym dut1, sym delta_t) (ap accepted e, c.epochs_of.ensures.1)
+    simp (sym date, sym c.if-not-is_time.ensures, sym dut1, sym delta_t) (ap accepted e)

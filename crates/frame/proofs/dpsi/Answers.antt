@@ -1,5 +1,5 @@
 -- The rows stand for the printed terms in whole units, which antt computes.
-use mathlib.Core.Path.{◌≡◌}
+use mathlib.Core.Path.{◌≡◌, ap, ◌∙◌}
 use Prim.Native.Nat.{◌≤◌, ◌^◌}
 use native.Mathlib.Nat.{le_trans}
 use lib.Dec.{lit≤}
@@ -8,6 +8,7 @@ use mir.Facts.{to_z-of_z}
 use Rattle.exact.specs.Division.{floor_div, nearest_div}
 use Rattle.exact.proofs.Machine.{ok-fits}
 use Rattle.secular.specs.Sizes.{most}
+use Rattle.epoch.specs.Epoch.{Epoch}
 use Rattle.epoch.proofs.Sizes.{q-size, q-fits}
 use Rattle.arguments.specs.PrintedArguments.{argument_count}
 use Rattle.series.specs.Sum.{weights}
@@ -21,13 +22,15 @@ use Rattle.frame.proofs.dpsi.Goals as goal
 module _ (c : After-rounded_sum) where
   sum_is : (c.rounded_sum.result ≡ dpsi c.args.arguments.now c.args.e.q) × (nat_abs c.rounded_sum.result ≤ 2 ^ 20)
   unfolding dpsi weights most kept steady_term steady_terms varying_term nearest_div floor_div
-  sum_is = (simp (to_z-of_z, q-fits c.requires.1) at c.rounded_sum.ensures.0, le_trans c.rounded_sum.ensures.1 (lit≤ tt))
+  sum_is = (
+    (simp (to_z-of_z, q-fits c.e.invariant) at c.rounded_sum.ensures.0) ∙ ap (λ (e : Epoch). dpsi c.args.arguments.now e.q) c.e.view_is,
+    le_trans c.rounded_sum.ensures.1 (lit≤ tt),
+  )
 
 pub rounded_sum-requires : goal.rounded_sum-requires
 unfolding weights most kept steady_term steady_terms varying_term counts
 rounded_sum-requires c =
-    let p = c.requires in
-    simp (to_z-of_z, q-fits p.1) (sum-ready argument_count p.0.reduced p.0.all (q-size p.1) tt tt tt)
+    simp (to_z-of_z, q-fits c.e.invariant) (sum-ready argument_count c.requires.reduced c.requires.all (q-size c.e.invariant) tt tt tt)
 
 pub returns : goal.returns
 returns c = simp (to_z-of_z, ok-fits c.rounded_sum.result c.rounded_sum.type_inv) (sum_is c)

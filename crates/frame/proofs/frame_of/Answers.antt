@@ -21,7 +21,7 @@ module _ (c : After-deps-deps) where
   mean = get_or c.args.arguments.now ε₀ (pos 0)
 
   mean-size : nat_abs mean < 2 ^ 34
-  mean-size = omega (arith, c.requires.0.reduced ε₀)
+  mean-size = omega (arith, c.requires.reduced ε₀)
 
   sum : SFits w64 (mean +ℤ c.deps-deps.result) × (nat_abs (mean +ℤ c.deps-deps.result) < 2 ^ 35)
   sum = go mean c.deps-deps.result mean-size c.deps-deps.ensures.1

@@ -18,7 +18,7 @@ use Rattle.epoch.specs.Epoch.{Epoch}
 use Rattle.epoch.proofs.Sizes.{n-size, n-fits}
 use Rattle.arguments.specs.Argument.{argument}
 use Rattle.frame.specs.Sidereal.{sidereal, equinoxes, sidereal_time}
-use Rattle.frame.proofs.sidereal_time.Goals.{After-equinoxes, After-struct_told-1, Start}
+use Rattle.frame.proofs.sidereal_time.Goals.{After-equinoxes}
 use Rattle.frame.proofs.sidereal_time.Goals as goal
 
 -- ---- over plain numbers
@@ -48,48 +48,42 @@ whole e Δψ ε =
     back d l v x = rw (split d, split l, split v, split x) (simp zs (omega arith))
 
 -- ---- what the calls give
-module _ (c : After-struct_told-1) where
-  abbrev start : Start
-  start = c.before.before.before
-
-  abbrev e : Epoch
-  e = start.args.universal
+module _ (c : After-equinoxes) where
+  abbrev n : ℤ
+  n = c.universal.inside.n
 
   abbrev found : ℕ
-  found = c.before.before.argument-excess.result
-
-  found-is : (found ≡ argument sidereal e) × (found < turn)
-  unfolding sidereal nearest_div floor_div
-  found-is = c.before.before.argument-excess.ensures
-
-  fit : SFits w64 e.n × SFits w64 (pos found)
-  fit = (n-fits start.requires.0, record { sfits = omega (arith, found-is.1) })
-
-  -- before the last addend is known
-  early : Sums e.n (pos found) (pos 0)
-  early = sums e.n (pos found) (pos 0) (n-size start.requires.0) found-is.1 (omega arith)
-
-module _ (c : After-equinoxes) where
-  abbrev d : After-struct_told-1
-  d = c.before
+  found = c.argument-excess.result
 
   abbrev x : ℤ
   x = c.equinoxes.result
 
-  late : Sums (e d).n (pos (found d)) x
-  late = sums (e d).n (pos (found d)) x (n-size (start d).requires.0) (found-is d).1 c.equinoxes.ensures.1
+  found-is : (found ≡ argument sidereal c.args.universal) × (found < turn)
+  unfolding sidereal nearest_div floor_div
+  found-is = c.argument-excess.ensures
 
-  x-is : x ≡ equinoxes (start d).args.dpsi (start d).args.epsilon
-  x-is = simp (to_z-of_z, (start d).ranges.dpsi, (start d).ranges.epsilon) at c.equinoxes.ensures.0
+  fit : SFits w64 n × SFits w64 (pos found)
+  fit = (n-fits c.universal.invariant, record { sfits = omega (arith, found-is.1) })
+
+  late : Sums n (pos found) x
+  late = sums n (pos found) x (n-size c.universal.invariant) found-is.1 c.equinoxes.ensures.1
+
+  x-is : x ≡ equinoxes c.args.dpsi c.args.epsilon
+  x-is = simp (to_z-of_z, c.ranges.dpsi, c.ranges.epsilon) at c.equinoxes.ensures.0
 
   x_fits : SFits w64 x
   x_fits = ok-fits x c.equinoxes.type_inv
 
+  n-is : n ≡ c.args.universal.n
+  n-is = ap (λ (e : Epoch). e.n) c.universal.view_is
+
 pub returns : goal.returns
 returns c =
     let b = c.before in
-    let f = fit (d b) in
+    let f = fit b in
     let l = late b in
     let r = simp (to_z-of_z, f.0, f.1, l.0, l.1, l.2, l.3, x_fits b) at c.reduced_bounded.ensures.0 in
-    let is = ap₂ (λ (a : ℕ) (x : ℤ). reduced (day (e (d b)).n +ℤ pos a +ℤ x)) (found-is (d b)).0 (x-is b) in
-    (r ∙ is ∙ whole (e (d b)) (start (d b)).args.dpsi (start (d b)).args.epsilon, c.reduced_bounded.ensures.1)
+    let a = c.args in
+    let is = ap₂ (λ (a : ℕ) (x : ℤ). reduced (day (n b) +ℤ pos a +ℤ x)) (found-is b).0 (x-is b) in
+    let universal = ap (λ (n : ℤ). reduced (day n +ℤ pos (argument sidereal a.universal) +ℤ equinoxes a.dpsi a.epsilon)) (n-is b) in
+    (r ∙ is ∙ universal ∙ whole a.universal a.dpsi a.epsilon, c.reduced_bounded.ensures.1)
