@@ -47,7 +47,7 @@ fn centre_sum(arguments: &[i64], q: i64) -> i64
 
 // The equation of the centre at an epoch, from its arguments, in units.
 pub fn equation_of_centre(arguments: &[i64], e: Epoch) -> i64
-    requires { IsArguments arguments.now × InSpan e }
+    requires { IsArguments arguments.now }
     ensures { (result ≡ equation_of_centre arguments.now e.q) × (nat_abs result ≤ 2 ^ 27) }
 {
     series::rounded(centre_sum(arguments, e.q))
@@ -55,7 +55,7 @@ pub fn equation_of_centre(arguments: &[i64], e: Epoch) -> i64
 
 // The mean longitude with the equation of the centre alone, reduced: for the aberration of a star.
 pub fn centre_longitude(arguments: &[i64], e: Epoch) -> u64
-    requires { IsArguments arguments.now × InSpan e }
+    requires { IsArguments arguments.now }
     ensures { (result ≡ centre_longitude arguments.now e.q) × (result < turn) }
 {
     exact::reduced_bounded(arguments[arguments::L] + equation_of_centre(arguments, e))
@@ -71,15 +71,15 @@ fn periodic_sum(arguments: &[i64]) -> i64
 
 // The exact sum of the terms of the short edition at an epoch.
 fn short_sum(arguments: &[i64; arguments::COUNT], e: Epoch) -> i64
-    requires { (arguments.now ≡ arguments_of e) × InSpan e }
-    ensures { (result ≡ total Sin (arguments_of e) e.q short_terms) × (nat_abs result ≤ R * 2 ^ 28) }
+    requires { arguments.now ≡ arguments_of e }
+    ensures { (result ≡ total Sin (arguments_of e) e.q short_terms) × (nat_abs result ≤ R * 2 ^ 28) × InSpan e }
 {
     centre_sum(arguments, e.q) + periodic_sum(arguments)
 }
 
 // The exact sum of what the full edition adds to the short one at an epoch, from the arguments of both.
 fn further_sum(arguments: &[i64; arguments::COUNT], e: Epoch) -> i64
-    requires { (arguments.now ≡ arguments_of e) × InSpan e }
+    requires { arguments.now ≡ arguments_of e }
     ensures { (result ≡ total Sin (full_arguments_of e) e.q further) × (nat_abs result ≤ R * 2 ^ 27) }
 {
     let all = arguments::full_arguments_of(arguments, e);
@@ -94,7 +94,7 @@ fn further_sum(arguments: &[i64; arguments::COUNT], e: Epoch) -> i64
 
 // The exact sum of the terms of the full edition, from that of the short one.
 fn full_sum(short: i64, arguments: &[i64; arguments::COUNT], e: Epoch) -> i64
-    requires { ((arguments.now ≡ arguments_of e) × InSpan e) × ((short ≡ total Sin (arguments_of e) e.q short_terms) × (nat_abs short ≤ R * 2 ^ 28)) }
+    requires { (arguments.now ≡ arguments_of e) × ((short ≡ total Sin (arguments_of e) e.q short_terms) × (nat_abs short ≤ R * 2 ^ 28)) }
     ensures { (result ≡ total Sin (full_arguments_of e) e.q full_terms) × (nat_abs result ≤ R * 2 ^ 29) }
 {
     short + further_sum(arguments, e)
@@ -103,8 +103,8 @@ fn full_sum(short: i64, arguments: &[i64; arguments::COUNT], e: Epoch) -> i64
 // What the terms of an edition add to the mean longitude at an epoch, in units: all of them are rounded together.
 // Kept: the edition is a number and no enum, since the function answers for every number.
 fn first_sum(edition: i64, arguments: &[i64; arguments::COUNT], e: Epoch) -> i64
-    requires { (arguments.now ≡ arguments_of e) × InSpan e }
-    ensures { (result ≡ first_sum edition e) × (nat_abs result ≤ 2 ^ 29) }
+    requires { arguments.now ≡ arguments_of e }
+    ensures { (result ≡ first_sum edition e) × (nat_abs result ≤ 2 ^ 29) × InSpan e }
 {
     let short = short_sum(arguments, e);
     if edition == 1 {
@@ -136,7 +136,7 @@ pub fn apparent_longitude(
     dpsi: i64,
     aberration: i64,
 ) -> u64
-    requires { ((arguments.now ≡ arguments_of e) × InSpan e) × ((dpsi ≡ Nutation.dpsi arguments.now e.q) × (nat_abs dpsi ≤ 2 ^ 20)) × (nat_abs aberration ≤ 2 ^ 20) }
+    requires { (arguments.now ≡ arguments_of e) × ((dpsi ≡ Nutation.dpsi arguments.now e.q) × (nat_abs dpsi ≤ 2 ^ 20)) × (nat_abs aberration ≤ 2 ^ 20) }
     ensures { IsLongitude edition aberration e result }
 {
     longitude_by(
@@ -154,7 +154,7 @@ pub fn both_longitudes(
     dpsi: i64,
     aberration: i64,
 ) -> Longitudes
-    requires { ((arguments.now ≡ arguments_of e) × InSpan e) × ((dpsi ≡ Nutation.dpsi arguments.now e.q) × (nat_abs dpsi ≤ 2 ^ 20)) × (nat_abs aberration ≤ 2 ^ 20) }
+    requires { (arguments.now ≡ arguments_of e) × ((dpsi ≡ Nutation.dpsi arguments.now e.q) × (nat_abs dpsi ≤ 2 ^ 20)) × (nat_abs aberration ≤ 2 ^ 20) }
     ensures { IsLongitude (pos 1) aberration e result.short × IsLongitude (pos 2) aberration e result.full }
 {
     let short = short_sum(arguments, e);

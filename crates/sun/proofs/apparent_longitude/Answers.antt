@@ -14,7 +14,7 @@ use Rattle.sun.proofs.apparent_longitude.Goals as goal
 
 pub longitude_by-requires : goal.longitude_by-requires
 longitude_by-requires c =
-    let all = subst⁻¹ IsArguments c.requires.0.0 (are-arguments c.args.e) in
+    let all = subst⁻¹ IsArguments c.requires.0 (are-arguments c.args.e) in
     let f = c.first_sum in
     simp (to_z-of_z, ok-fits f.result f.type_inv, c.ranges.dpsi, c.ranges.aberration) (all, f.ensures.1, c.requires.1.1, c.requires.2)
 
@@ -27,8 +27,8 @@ returns c =
     let l = a.arguments.now in
     let is = simp (to_z-of_z, ok-fits f.result f.type_inv, c.ranges.dpsi, c.ranges.aberration) at c.longitude_by.ensures.0 in
     let first = simp (to_z-of_z, c.ranges.edition) at f.ensures.0 in
-    is-longitude a.edition k e c.longitude_by.result c.requires.0.1
+    is-longitude a.edition k e c.longitude_by.result f.ensures.2
     (is
     ∙ ap₂ (λ (x n : ℤ). reduced (mean_longitude l +ℤ x +ℤ n -ℤ k)) first c.requires.1.0
-    ∙ ap (λ (l : List ℤ). reduced (mean_longitude l +ℤ first_sum a.edition e +ℤ dpsi l e.q -ℤ k)) c.requires.0.0)
+    ∙ ap (λ (l : List ℤ). reduced (mean_longitude l +ℤ first_sum a.edition e +ℤ dpsi l e.q -ℤ k)) c.requires.0)
     c.longitude_by.ensures.1

@@ -11,6 +11,7 @@ use Rattle.exact.specs.Division.{nearest_div}
 use Rattle.exact.specs.Reduction.{turn, reduced}
 use Rattle.exact.proofs.Machine.{ok-fits}
 use Rattle.sine_table.specs.Table.{R}
+use Rattle.epoch.specs.Sizes.{InSpan}
 use Rattle.arguments.specs.Sizes.{IsArguments}
 use Rattle.arguments.proofs.AllReduced.{are-arguments}
 use Rattle.frame.specs.Nutation.{dpsi}
@@ -27,23 +28,23 @@ fit c = (ok-fits c.short_sum-short.result c.short_sum-short.type_inv, ok-fits c.
 -- ---- the longitude of an edition whose sum is rounded
 module _ (s : Start) where
   are : IsArguments s.args.arguments.now
-  are = subst⁻¹ IsArguments s.requires.0.0 (are-arguments s.args.e)
+  are = subst⁻¹ IsArguments s.requires.0 (are-arguments s.args.e)
 
-  edition-is : (edition x : ℤ) (r : ℕ) → x ≡ first_sum edition s.args.e
+  edition-is : (edition x : ℤ) (r : ℕ) → InSpan s.args.e → x ≡ first_sum edition s.args.e
       → r ≡ reduced (mean_longitude s.args.arguments.now +ℤ x +ℤ s.args.dpsi -ℤ s.args.aberration) → r < turn
       → IsLongitude edition s.args.aberration s.args.e r
-  edition-is edition x r first is l =
+  edition-is edition x r span first is l =
       let a = s.args in
       let k = a.aberration in
       let e = a.e in
-      is-longitude edition k e r s.requires.0.1
+      is-longitude edition k e r span
       (is
       ∙ ap₂ (λ (x n : ℤ). reduced (mean_longitude a.arguments.now +ℤ x +ℤ n -ℤ k)) first s.requires.1.0
-      ∙ ap (λ (l : List ℤ). reduced (mean_longitude l +ℤ first_sum edition e +ℤ dpsi l e.q -ℤ k)) s.requires.0.0)
+      ∙ ap (λ (l : List ℤ). reduced (mean_longitude l +ℤ first_sum edition e +ℤ dpsi l e.q -ℤ k)) s.requires.0)
       l
 
 pub full_sum-full-requires : goal.full_sum-full-requires
-full_sum-full-requires c = simp (to_z-of_z, ok-fits c.short_sum-short.result c.short_sum-short.type_inv) (c.requires.0, c.short_sum-short.ensures)
+full_sum-full-requires c = simp (to_z-of_z, ok-fits c.short_sum-short.result c.short_sum-short.type_inv) (c.requires.0, (c.short_sum-short.ensures.0, c.short_sum-short.ensures.1))
 
 -- ---- the short edition
 pub rounded-requires : goal.rounded-requires
@@ -97,11 +98,11 @@ returns c =
     let s = a.Start in
     let r = a.After-rounded in
     let f = a.After-rounded-2 in (
-      edition-is s (pos 1) (sum r) c.longitude_by.result
+      edition-is s (pos 1) (sum r) c.longitude_by.result c.short_sum-short.ensures.2
           ((sum_is r).0 ∙ short-first-sum (pos 1) c.args.e c.short_sum-short.result refl c.short_sum-short.ensures.0)
           (simp (to_z-of_z, sum_fits r, c.ranges.dpsi, c.ranges.aberration) at c.longitude_by.ensures.0)
           c.longitude_by.ensures.1,
-      edition-is s (pos 2) (full f) c.longitude_by-2.result
+      edition-is s (pos 2) (full f) c.longitude_by-2.result c.short_sum-short.ensures.2
           ((full_is f).0 ∙ full-first-sum (pos 2) c.args.e c.full_sum-full.result full-is-not-short c.full_sum-full.ensures.0)
           (simp (to_z-of_z, full-fits f, c.ranges.dpsi, c.ranges.aberration) at c.longitude_by-2.ensures.0)
           c.longitude_by-2.ensures.1,

@@ -22,10 +22,10 @@ module _ (c : After-equation_of_centre) where
   centre = c.equation_of_centre.result
 
   fit : SFits w64 mean × SFits w64 centre
-  fit = (fits_lt turn mean (c.requires.0.reduced L) refl, ok-fits centre c.equation_of_centre.type_inv)
+  fit = (fits_lt turn mean (c.requires.reduced L) refl, ok-fits centre c.equation_of_centre.type_inv)
 
   sum : SFits w64 (mean +ℤ centre) × (nat_abs (mean +ℤ centre) ≤ 2 ^ 61)
-  sum = go mean centre (c.requires.0.reduced L) c.equation_of_centre.ensures.1
+  sum = go mean centre (c.requires.reduced L) c.equation_of_centre.ensures.1
     where
       go : (l f : ℤ) → nat_abs l < turn → nat_abs f ≤ 2 ^ 27 → SFits w64 (l +ℤ f) × (nat_abs (l +ℤ f) ≤ 2 ^ 61)
       go l f = rw (split l, split f) (simp zs (omega arith))

@@ -19,11 +19,11 @@ returns-then-edition-eq1 c =
     let one = sym (to_z-of_z c.ranges.edition) ∙ ap (to_z w64) c.if-edition-eq1.true in
     let r = simp (to_z-of_z, ok-fits short.result short.type_inv) at c.rounded.ensures in
     simp (to_z-of_z, ok-fits c.rounded.result c.rounded.type_inv)
-    (r.0 ∙ short-first-sum c.args.edition c.args.e short.result one short.ensures.0, r.1 (2 ^ 29) (omega (arith, short.ensures.1)))
+    (r.0 ∙ short-first-sum c.args.edition c.args.e short.result one short.ensures.0, r.1 (2 ^ 29) (omega (arith, short.ensures.1)), short.ensures.2)
 
 -- ---- the full one
 pub full_sum-requires : goal.full_sum-requires
-full_sum-requires c = let p = c.requires in simp (to_z-of_z, ok-fits c.short_sum-short.result c.short_sum-short.type_inv) ((p.0, p.1), c.short_sum-short.ensures)
+full_sum-requires c = let s = c.short_sum-short in simp (to_z-of_z, ok-fits s.result s.type_inv) (c.requires, (s.ensures.0, s.ensures.1))
 
 pub rounded-requires-else-edition-eq1 : goal.rounded-requires-else-edition-eq1
 rounded-requires-else-edition-eq1 c = simp (to_z-of_z, ok-fits c.full_sum.result c.full_sum.type_inv) (omega (arith, c.full_sum.ensures.1))
@@ -33,4 +33,4 @@ returns-else-edition-eq1 c =
     let full = c.full_sum in
     let r = simp (to_z-of_z, ok-fits full.result full.type_inv) at c.rounded-else-edition-eq1.ensures in
     simp (to_z-of_z, ok-fits c.rounded-else-edition-eq1.result c.rounded-else-edition-eq1.type_inv)
-    (r.0 ∙ full-first-sum c.args.edition c.args.e full.result (λ h. c.if-edition-eq1.false (ap (of_z w64) h)) full.ensures.0, r.1 (2 ^ 29) full.ensures.1)
+    (r.0 ∙ full-first-sum c.args.edition c.args.e full.result (λ h. c.if-edition-eq1.false (ap (of_z w64) h)) full.ensures.0, r.1 (2 ^ 29) full.ensures.1, c.short_sum-short.ensures.2)

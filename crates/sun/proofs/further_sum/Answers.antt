@@ -1,5 +1,5 @@
 -- The rows stand for the printed terms in whole units, which antt computes.
-use mathlib.Core.Path.{◌≡◌, refl, ap, ◌∙◌}
+use mathlib.Core.Path.{◌≡◌, refl, ap, ap₂, ◌∙◌}
 use mathlib.Core.List.{List}
 use Prim.Native.Nat.{◌*◌, ◌≤◌, ◌^◌}
 use native.Mathlib.Nat.{le_trans}
@@ -11,6 +11,7 @@ use Rattle.exact.proofs.Machine.{ok-fits}
 use Rattle.secular.specs.Sizes.{most}
 use Rattle.sine_table.specs.Table.{R}
 use Rattle.sine.specs.Sine.{Sin}
+use Rattle.epoch.specs.Epoch.{Epoch}
 use Rattle.epoch.proofs.Sizes.{q-size, q-fits}
 use Rattle.arguments.specs.PrintedArguments.{full_count}
 use Rattle.series.specs.Sum.{total, weights}
@@ -24,14 +25,13 @@ use Rattle.sun.proofs.further_sum.Goals as goal
 pub sum-requires : goal.sum-requires
 unfolding weights most kept steady_term steady_terms varying_term counts
 sum-requires c =
-    let p = c.requires in
     let r = c.full_arguments_of-all.ensures.1 in
-    (varying-ready full_count r.reduced r.all (simp (to_z-of_z, q-fits p.1) (q-size p.1)) tt, steady-ready full_count r.reduced r.all tt)
+    (varying-ready full_count r.reduced r.all (simp (to_z-of_z, q-fits c.e.invariant) (q-size c.e.invariant)) tt, steady-ready full_count r.reduced r.all tt)
 
 module _ (c : After-sum) where
-  sum_is : c.sum.result ≡ total Sin c.full_arguments_of-all.result c.args.e.q further
+  sum_is : c.sum.result ≡ total Sin c.full_arguments_of-all.result c.e.inside.q further
   unfolding kept steady_term steady_terms varying_term nearest_div floor_div
-  sum_is = let e = simp (to_z-of_z, q-fits c.requires.1) at c.sum.ensures.0 in e ∙ ap (total Sin c.full_arguments_of-all.result c.args.e.q) refl
+  sum_is = let e = simp (to_z-of_z, q-fits c.e.invariant) at c.sum.ensures.0 in e ∙ ap (total Sin c.full_arguments_of-all.result c.e.inside.q) refl
 
   sum-le : nat_abs c.sum.result ≤ R * 2 ^ 27
   unfolding weights most kept steady_term steady_terms varying_term
@@ -41,4 +41,4 @@ pub returns : goal.returns
 returns c =
     let d = (goal.at.returns c).After-sum in
     simp (to_z-of_z, ok-fits c.sum.result c.sum.type_inv)
-    (sum_is d ∙ ap (λ (l : List ℤ). total Sin l c.args.e.q further) c.full_arguments_of-all.ensures.0, sum-le d)
+    (sum_is d ∙ ap₂ (λ (l : List ℤ) (e : Epoch). total Sin l e.q further) c.full_arguments_of-all.ensures.0 d.e.view_is, sum-le d)
