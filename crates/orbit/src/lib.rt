@@ -6,7 +6,6 @@ ghost use Rattle.std.specs.Prelude.{◌≡◌, ◌*◌, ◌≤◌, ◌<◌, ◌^
 ghost use Rattle.exact.specs.Reduction.{turn, reduced};
 ghost use Rattle.secular.specs.Sizes.{most_millionths};
 ghost use Rattle.sine_table.specs.Table.{R};
-ghost use Rattle.epoch.specs.Sizes.{InSpan};
 ghost use Rattle.arguments.specs.PrintedArguments.{arguments_of};
 ghost use Rattle.sun.specs.Longitude.{equation_of_centre};
 ghost use Rattle.orbit.specs.Sizes.{eccentricity_most, RadiusSized};
@@ -54,7 +53,7 @@ fn radius_by(e: i64, cosine: i64) -> u64
 
 // The radius vector at an epoch, from its arguments and the equation of the centre.
 pub fn radius_vector(equation: i64, arguments: &[i64; arguments::COUNT], e: Epoch) -> u64
-    requires { ((arguments.now ≡ arguments_of e) × InSpan e) × ((equation ≡ equation_of_centre (arguments_of e) e.q) × (nat_abs equation ≤ 2 ^ 27)) }
+    requires { (arguments.now ≡ arguments_of e) × ((equation ≡ equation_of_centre (arguments_of e) e.q) × (nat_abs equation ≤ 2 ^ 27)) }
     ensures { (result ≡ radius_vector e) × RadiusSized result }
 {
     let v = true_angle(arguments[arguments::MS], equation);

@@ -12,7 +12,6 @@ ghost use Rattle.sine.specs.SineContract.{circle_most};
 ghost use Rattle.rotation.specs.Rotation.{rotated, rotation3};
 ghost use Rattle.rotation.specs.Length.{squared_length, growth};
 ghost use Rattle.rotation.specs.Sizes.{reach, Bounded};
-ghost use Rattle.epoch.specs.Sizes.{InSpan};
 ghost use Rattle.polaris.specs.Elements.{tropical_millionths, elements_of};
 ghost use Rattle.polaris.specs.Apparent.{scaled, catalogue, precessed, nutated, true_direction, aberration_parts, aberration, plus, direction};
 ghost use Rattle.polaris.specs.Sizes.{ElementsSized, direction_most};
@@ -41,7 +40,6 @@ pub struct Elements {
 
 // p, the millionths of a tropical century since 1975.0.
 pub fn tropical_millionths(e: Epoch) -> i64
-    requires { InSpan e }
     ensures { (result ≡ tropical_millionths e) × (nat_abs result ≤ most_millionths) }
 {
     exact::floor_div(1_000_000 * (e.n - EPOCH_1975), TROPICAL_CENTURY)
@@ -138,7 +136,7 @@ fn plus(d: Direction, a: Direction) -> Direction
 
 // The apparent direction of Polaris at an epoch, of ε₀, Δψ, ε and g.
 pub fn direction(e: Epoch, epsilon0: i64, dpsi: i64, epsilon: i64, g: u64) -> Direction
-    requires { InSpan e × (nat_abs epsilon0 < 2 ^ 40) × (nat_abs dpsi < 2 ^ 40) × (nat_abs epsilon < 2 ^ 40) × (g < turn) }
+    requires { (nat_abs epsilon0 < 2 ^ 40) × (nat_abs dpsi < 2 ^ 40) × (nat_abs epsilon < 2 ^ 40) × (g < turn) }
     ensures { (result ≡ direction e epsilon0 dpsi epsilon g) × (squared_length result ≤ direction_most) }
 {
     let k = elements_of(tropical_millionths(e));

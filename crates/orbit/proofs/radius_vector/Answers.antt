@@ -10,6 +10,7 @@ use mir.Val.{SFits}
 use Rattle.exact.specs.Reduction.{turn, reduced}
 use Rattle.exact.proofs.Machine.{ok-fits, fits_lt}
 use Rattle.sine.specs.Sine.{Cos}
+use Rattle.epoch.specs.Epoch.{Epoch}
 use Rattle.epoch.proofs.Sizes.{q-size, q-fits}
 use Rattle.arguments.specs.PrintedArguments.{Ms, arguments_of}
 use Rattle.arguments.specs.Sizes.{IsArguments}
@@ -23,7 +24,7 @@ module _ (s : Start) where
   anomaly = get_or s.args.arguments.now Ms (pos 0)
 
   anomaly-small : nat_abs anomaly < turn
-  anomaly-small = (subst⁻¹ IsArguments s.requires.0.0 (are-arguments s.args.e)).reduced Ms
+  anomaly-small = (subst⁻¹ IsArguments s.requires.0 (are-arguments s.args.e)).reduced Ms
 
   anomaly-fits : SFits w64 anomaly
   anomaly-fits = fits_lt turn anomaly anomaly-small refl
@@ -43,14 +44,16 @@ module _ (c : After-cos) where
   fits = (ok-fits _ after-eccentricity.eccentricity.type_inv, ok-fits _ c.cos.type_inv)
 
   eccentricity-is : after-eccentricity.eccentricity.result ≡ eccentricity start.args.e.q
-  eccentricity-is = simp (to_z-of_z, q-fits start.requires.0.1) at after-eccentricity.eccentricity.ensures.0
+  eccentricity-is =
+      let e = c.e in
+      (simp (to_z-of_z, q-fits e.invariant) at after-eccentricity.eccentricity.ensures.0) ∙ ap (λ (e : Epoch). eccentricity e.q) e.view_is
 
   anomaly-is : after-anomaly.true_angle-v.result ≡ true_anomaly (arguments_of start.args.e) start.args.e.q
   unfolding true_anomaly
   anomaly-is =
       let s = start in
       let is = simp (to_z-of_z, anomaly-fits s, s.ranges.equation) at after-anomaly.true_angle-v.ensures.0 in
-      is ∙ ap₂ (λ (l : List ℤ) (c : ℤ). reduced (get_or l Ms (pos 0) +ℤ c)) s.requires.0.0 s.requires.1.0
+      is ∙ ap₂ (λ (l : List ℤ) (c : ℤ). reduced (get_or l Ms (pos 0) +ℤ c)) s.requires.0 s.requires.1.0
 
 pub true_angle-v-requires : goal.true_angle-v-requires
 true_angle-v-requires c =
@@ -59,8 +62,7 @@ true_angle-v-requires c =
 
 pub eccentricity-requires : goal.eccentricity-requires
 eccentricity-requires c =
-    let h = c.before.before.before.requires.0.1 in
-    simp (to_z-of_z, q-fits h) (q-size h)
+    simp (to_z-of_z, q-fits c.e.invariant) (q-size c.e.invariant)
 
 pub returns : goal.returns
 unfolding radius_vector

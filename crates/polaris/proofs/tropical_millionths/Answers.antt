@@ -1,3 +1,4 @@
+use mathlib.Core.Path.{ap, ◌∙◌}
 use Prim.Native.Nat.{◌*◌, ◌≤◌, ◌^◌}
 use native.Mathlib.Omega.{arith}
 use lib.Dec.{lit<}
@@ -22,8 +23,8 @@ since-1975 n = rw (split n) (simp zs (omega arith))
 pub returns : goal.returns
 unfolding tropical_millionths
 returns c =
-    let n = c.args.e.n in
-    let sizes = since-1975 n c.requires.span in
+    let n = c.e.inside.n in
+    let sizes = since-1975 n c.e.invariant.span in
     let h = floor-abs (million n) tropical_century (10 ^ 6) (lit< tt) sizes.2 in
-    let is = simp (to_z-of_z, n-fits c.requires, sizes.0, sizes.1) at c.floor_div.ensures in
-    simp (to_z-of_z, ok-fits c.floor_div.result c.floor_div.type_inv) (is, rw is (omega (arith, h)))
+    let is = simp (to_z-of_z, n-fits c.e.invariant, sizes.0, sizes.1) at c.floor_div.ensures in
+    simp (to_z-of_z, ok-fits c.floor_div.result c.floor_div.type_inv) (is ∙ ap tropical_millionths c.e.view_is, rw is (omega (arith, h)))
