@@ -26,6 +26,7 @@ pub struct SightAngles {
 }
 
 // The direction (x', east, z): d rotated to the meridian of a longitude.
+#[tactic(auto, unfolding(crate::specs::Horizon::to_meridian))]
 pub fn to_meridian(d: Direction, sidereal: u64, longitude: i64) -> Direction
     requires { (squared_length d ≤ reach) × (sidereal < turn) × (nat_abs longitude < 2 ^ 40) }
     ensures { (result ≡ to_meridian (pos sidereal) longitude d) × (squared_length result ≤ squared_length d + growth) }
@@ -56,6 +57,7 @@ struct View {
 
 impl View {
     // North² + east².
+    #[tactic(auto, unfolding(crate::specs::Horizon::horizontal_square))]
     fn horizontal_square(self) -> u64
         ensures { (result ≡ horizontal_square self.north self.east) × (result ≤ square_most) }
     {
@@ -86,6 +88,7 @@ impl View {
 }
 
 // What an observer at a position sees of a body in direction d, at a sidereal time of Greenwich.
+#[tactic(auto, unfolding(crate::specs::Horizon::view_from))]
 pub fn sight(d: Direction, sidereal: u64, position: Position) -> Result<SightAngles, Refusal>
     requires { (squared_length d + 2 * growth ≤ reach) × (sidereal < turn) × PositionSized position }
     ensures { (sight_values result ≡ sight_of (view_from (pos sidereal) position d)) × SightReduced result }

@@ -79,6 +79,7 @@ pub fn catalogue(alpha: i64, delta: i64) -> Direction
 }
 
 // Precession, from the equinox of 1975.0 to that of the date.
+#[tactic(auto, unfolding(crate::specs::Apparent::precessed))]
 fn precessed(k: Elements, d: Direction) -> Direction
     requires { ElementsSized k × (squared_length d + 2 * growth ≤ reach) }
     ensures { (result ≡ precessed k.zeta k.theta k.z d) × (squared_length result ≤ squared_length d + 3 * growth) }
@@ -88,6 +89,7 @@ fn precessed(k: Elements, d: Direction) -> Direction
 }
 
 // Nutation, from the mean equinox of the date to the true one.
+#[tactic(auto, unfolding(crate::specs::Apparent::nutated))]
 fn nutated(epsilon0: i64, dpsi: i64, epsilon: i64, d: Direction) -> Direction
     requires { (nat_abs epsilon0 < 2 ^ 40) × (nat_abs dpsi < 2 ^ 40) × (nat_abs epsilon < 2 ^ 40) × (squared_length d + 2 * growth ≤ reach) }
     ensures { (result ≡ nutated epsilon0 dpsi epsilon d) × (squared_length result ≤ squared_length d + 3 * growth) }
@@ -97,6 +99,7 @@ fn nutated(epsilon0: i64, dpsi: i64, epsilon: i64, d: Direction) -> Direction
 }
 
 // The direction without aberration, of ε₀, Δψ and ε.
+#[tactic(auto, unfolding(crate::specs::Apparent::true_direction))]
 pub fn true_direction(k: Elements, epsilon0: i64, dpsi: i64, epsilon: i64) -> Direction
     requires { ElementsSized k × (nat_abs epsilon0 < 2 ^ 40) × (nat_abs dpsi < 2 ^ 40) × (nat_abs epsilon < 2 ^ 40) }
     ensures { (result ≡ true_direction k epsilon0 dpsi epsilon) × (squared_length result ≤ circle_most + 7 * growth) }
@@ -135,6 +138,7 @@ fn plus(d: Direction, a: Direction) -> Direction
 }
 
 // The apparent direction of Polaris at an epoch, of ε₀, Δψ, ε and g.
+#[tactic(auto, unfolding(crate::specs::Apparent::direction))]
 pub fn direction(e: Epoch, epsilon0: i64, dpsi: i64, epsilon: i64, g: u64) -> Direction
     requires { (nat_abs epsilon0 < 2 ^ 40) × (nat_abs dpsi < 2 ^ 40) × (nat_abs epsilon < 2 ^ 40) × (g < turn) }
     ensures { (result ≡ direction e epsilon0 dpsi epsilon g) × (squared_length result ≤ direction_most) }

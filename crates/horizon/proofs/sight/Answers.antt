@@ -1,13 +1,10 @@
 -- Two rotations, and the angles of what they give.
-use Prim.Native.Nat.{◌≤◌, ◌^◌}
-use mathlib.Core.Path.{refl}
+use Prim.Native.Nat.{◌≤◌}
 use native.Mathlib.Omega.{arith}
 use mir.Facts.{to_z-of_z}
-use Rattle.exact.proofs.Machine.{fits_lt}
 use Rattle.rotation.proofs.Sizes.{components-le}
 use Rattle.rotation.specs.Length.{squared_length}
 use Rattle.rotation.specs.Sizes.{reach}
-use Rattle.horizon.specs.Horizon.{view_from}
 use Rattle.horizon.proofs.Components.{component-fits}
 use Rattle.horizon.proofs.sight.Goals as goal
 
@@ -24,15 +21,3 @@ invariant_of-seen c =
       east_small = components-le h h_short 1;
       north_small = components-le h h_short 2;
     })
-
-pub returns : goal.returns
-unfolding view_from
-returns c =
-    let m = c.to_meridian-m.result in
-    let h = c.to_horizon.result in
-    let m-short : squared_length m ≤ reach = omega arith in
-    let h_short : squared_length h ≤ reach = omega arith in
-    let e = simp (to_z-of_z, component-fits m m-short 0, component-fits h h_short 0, component-fits h h_short 1, component-fits h h_short 2) at c.angles.ensures.0 in
-    let at-meridian = simp (to_z-of_z, fits_lt (2 ^ 40) c.args.position.longitude c.requires.2.longitude refl) at c.to_meridian-m.ensures.0 in
-    let at-horizon = simp (to_z-of_z, fits_lt (2 ^ 40) c.args.position.latitude c.requires.2.latitude refl) at c.to_horizon.ensures.0 in
-    (rw (at-horizon, at-meridian) at e, c.angles.ensures.1)
