@@ -1,2 +1,1 @@
 pub mod AllReduced
-pub mod Filling
