@@ -5,7 +5,6 @@ ghost use Rattle.std.specs.Prelude.{◌≡◌, ◌+◌, ◌*◌, ◌<◌, ◌≤
 ghost use Rattle.exact.specs.Reduction.{turn};
 ghost use Rattle.rotation.specs.Length.{squared_length, growth};
 ghost use Rattle.rotation.specs.Sizes.{reach};
-ghost use Rattle.calendar.specs.Sizes.{EpochsSized};
 ghost use Rattle.site.specs.Sizes.{PositionSized};
 ghost use Rattle.card.specs.Fields.{field_count};
 ghost use Rattle.fieldbook.specs.Shot.{numbers_of, options_of, query, query_of, shot_values, ShotReduced, view_at, shot, shot_from_card};
@@ -146,7 +145,6 @@ struct Astrometry {
 impl Astrometry {
     // The astrometry of two epochs: all by ephemeris time, and sidereal time by universal time too.
     fn of(epochs: Epochs) -> Astrometry
-        requires { EpochsSized epochs }
         ensures { result.epochs ≡ epochs }
     {
         let e = epochs.ephemeris;

@@ -3,7 +3,6 @@
 #![tactic(auto)]
 
 ghost use Rattle.std.specs.Prelude.{◌≡◌, ◌≤◌, length};
-ghost use Rattle.epoch.specs.Sizes.{InSpan};
 ghost use Rattle.short_series.specs.Editions.{number_count, time_of, comparison_values, compared_at, editions_values, editions};
 
 use calendar::CivilTime;
@@ -42,7 +41,6 @@ pub fn time_of(list: &[i64]) -> CivilTime
 
 // Both editions at an epoch of ephemeris time.
 fn compared_at(e: Epoch) -> Comparison
-    requires { InSpan e }
     ensures { comparison_values result ≡ compared_at e }
 {
     let arguments = arguments::arguments_of(e);

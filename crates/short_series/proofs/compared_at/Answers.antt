@@ -1,5 +1,5 @@
 -- Each call gives what the definition names.
-use mathlib.Core.Path.{◌≡◌, refl}
+use mathlib.Core.Path.{◌≡◌, refl, ap, ◌∙◌}
 use Prim.Native.Nat.{ℕ}
 use lib.IntN.{pos}
 use mir.Facts.{to_z-of_z}
@@ -20,10 +20,11 @@ unfolding compared_at
 made e short full apart bound s f a b = rw (a, b, s, f) refl
 
 pub short_cost-requires : goal.short_cost-requires
-short_cost-requires c = simp (to_z-of_z, q-fits c.requires) (q-size c.requires)
+short_cost-requires c = simp (to_z-of_z, q-fits c.e.invariant) (q-size c.e.invariant)
 
 pub returns : goal.returns
 unfolding aberration nearest_div floor_div
 returns c =
     let l = c.both_longitudes-s.ensures in
-    made c.args.e _ _ _ _ l.0.value l.1.value c.short_way.ensures (simp (to_z-of_z, q-fits c.requires) at c.short_cost.ensures)
+    let cost = simp (to_z-of_z, q-fits c.e.invariant) at c.short_cost.ensures in
+    made c.args.e _ _ _ _ l.0.value l.1.value c.short_way.ensures (cost ∙ ap (λ (e : Epoch). short_cost e.q) c.e.view_is)

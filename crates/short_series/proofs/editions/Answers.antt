@@ -32,9 +32,9 @@ module _ (t : CivilTime) where
       ∙ passed_on instants (accepted found) refl (compared_at found.ephemeris) refused (instant_tests t) all (ap (λ (v : InstantValues). v.refusal) e)
 
 pub returns : goal.returns
-returns c = c.compared_at.ensures ∙ compared-editions c.args.time c.in_ok-epochs.epochs c.in_ok-epochs.ensures.0
+returns c = c.compared_at.ensures ∙ compared-editions c.args.time c.in_ok-epochs.epochs c.in_ok-epochs.ensures
 
 pub returns-in_err-epochs : goal.returns-in_err-epochs
 returns-in_err-epochs c =
     let e = err_from_is_err_and c.from_residual.result c.from_residual.ensures.1 in
-    rw (e.1, e.2) (refused-editions c.args.time _ c.in_err-epochs.ensures.0)
+    rw (e.1, e.2) (refused-editions c.args.time _ c.in_err-epochs.ensures)

@@ -24,7 +24,6 @@ invariant_of-result c =
     let o = frame_is.epsilon in cc) in
     record {
       known = record {
-        span = c.requires.ephemeris;
         arguments = c.arguments_of-arguments.ensures.0;
         all = c.arguments_of-arguments.ensures.1;
         frame = frame_is;

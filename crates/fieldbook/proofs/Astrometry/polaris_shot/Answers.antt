@@ -14,7 +14,7 @@ direction-d-requires c =
     let k = c.args.self.now in
     let f = k.known.frame in
     simp (to_z-of_z, epsilon0-fits k, dpsi-fits k, epsilon-fits k)
-    (k.known.span, omega (arith, f.epsilon0-size), omega (arith, f.dpsi-size), omega (arith, f.epsilon-size), c.centre_longitude-g.ensures.1)
+    (omega (arith, f.epsilon0-size), omega (arith, f.dpsi-size), omega (arith, f.epsilon-size), c.centre_longitude-g.ensures.1)
 
 pub returns : goal.returns
 unfolding polaris_shot
