@@ -1,4 +1,5 @@
--- What the parts of a shot owe, as the code makes them one after the other: a body from a position, and a shot at an accepted instant.
+-- The parts of a shot. A body's sight from a position is what a function of its own owes; the others are the steps of the shot at an accepted instant, each
+-- with the tests that are left from there.
 use Rattle.std.specs.Prelude.{ℕ, ℤ}
 use Rattle.refusal.specs.Tests.{decided}
 use Rattle.calendar.specs.declared.Epochs.{Epochs}

@@ -16,8 +16,8 @@ unfolding is_time
 returns-then-between-2 c =
     let a = c.args.self in
     let r : Fit a = search rules in
-    let hour = simp (to_z-of_z, r.hour) at c.between.ensures in
-    let minute = simp (to_z-of_z, r.minute) at c.between-then-between.ensures in
+    let hour = simp (to_z-of_z, r.hour) at c.if-between.ensures in
+    let minute = simp (to_z-of_z, r.minute) at c.if-between-2.ensures in
     let month = simp (to_z-of_z, r.month) at c.magnitude.ensures in
     let day = simp (to_z-of_z, r.day) at c.magnitude-then-between-2.ensures in
     let h = simp (to_z-of_z, r.hour) at c.magnitude-then-between-2-2.ensures in
@@ -26,19 +26,17 @@ returns-then-between-2 c =
     cc (c.last_millisecond.ensures.0, month, day, h, m) in
     let f : SFits w64 (pos c.last_millisecond.result) = record { sfits = omega (arith, c.last_millisecond.ensures.1) } in
     let e = simp (to_z-of_z, r.millisecond, f) at c.between-then-between-2.ensures in
-    simp (sym hour ∙ c.if-between.true, sym minute ∙ c.if-between-2.true)
-    (e ∙ ap (λ (n : ℕ). between (pos 0) a.millisecond (pos n)) last)
+    simp (sym hour, sym minute) (e ∙ ap (λ (n : ℕ). between (pos 0) a.millisecond (pos n)) last)
 
 pub returns-else-between-2 : goal.returns-else-between-2
 unfolding is_time
 returns-else-between-2 c =
     let r : Fit c.args.self = search rules in
-    let hour = simp (to_z-of_z, r.hour) at c.between.ensures in
-    let minute = simp (to_z-of_z, r.minute) at c.between-then-between.ensures in
-    simp (sym hour ∙ c.if-between.true, sym minute ∙ c.if-between-2.false) c.if-between-2.false
+    let hour = simp (to_z-of_z, r.hour) at c.if-between.ensures in
+    let minute = simp (to_z-of_z, r.minute) at c.if-between-2.ensures in simp (sym hour, sym minute) c.if-between-2.false
 
 pub returns-else-between : goal.returns-else-between
 unfolding is_time
 returns-else-between c =
     let r : Fit c.args.self = search rules in
-    let hour = simp (to_z-of_z, r.hour) at c.between.ensures in simp (sym hour ∙ c.if-between.false) c.if-between.false
+    let hour = simp (to_z-of_z, r.hour) at c.if-between.ensures in simp (sym hour) c.if-between.false
