@@ -1,12 +1,13 @@
-// A card in words that the caller lends, and the calls on it. Document 01, "The card"; document 02, request 6.
+// A card in words that the caller lends, and the calls on it.
 ghost use Rattle.std.specs.Prelude.{◌≡◌};
 ghost use Rattle.fieldbook.specs.Shot.{ShotReduced};
 ghost use Rattle.lent_card.specs.LentCard.{words_values, read_words_values, fresh_words, hear_words, confirm_words, undo_words, read_words, buffer_words};
 ghost use Rattle.capi.specs.Interface.{shot_answer_values, card_shot};
 
+use crate::shots;
 use crate::shots::ShotAnswer;
 use fieldbook::Options;
-use lent_card::{Call, ReadAnswer};
+use lent_card::ReadAnswer;
 
 // Makes the words a fresh card.
 #[unsafe(no_mangle)]
@@ -21,7 +22,7 @@ pub extern "C" fn fieldbook_card_fresh(words: &mut [i64]) -> u64
 pub extern "C" fn fieldbook_card_hear(words: &mut [i64], field: i64, number: i64) -> u64
     ensures { words_values result words.new ≡ hear_words words.old field number }
 {
-    lent_card::call_words(words, Call::Hear(field, number))
+    lent_card::hear(words, field, number)
 }
 
 // Confirms a field that was read out.
@@ -29,7 +30,7 @@ pub extern "C" fn fieldbook_card_hear(words: &mut [i64], field: i64, number: i64
 pub extern "C" fn fieldbook_card_confirm(words: &mut [i64], field: i64) -> u64
     ensures { words_values result words.new ≡ confirm_words words.old field }
 {
-    lent_card::call_words(words, Call::Confirm(field))
+    lent_card::confirm(words, field)
 }
 
 // Undoes the latest accepted hearing.
@@ -37,7 +38,7 @@ pub extern "C" fn fieldbook_card_confirm(words: &mut [i64], field: i64) -> u64
 pub extern "C" fn fieldbook_card_undo(words: &mut [i64]) -> u64
     ensures { words_values result words.new ≡ undo_words words.old }
 {
-    lent_card::call_words(words, Call::Undo)
+    lent_card::undo(words)
 }
 
 // Reads a field out, into a buffer from a place on.
@@ -59,12 +60,8 @@ pub extern "C" fn fieldbook_card_read(
 pub extern "C" fn fieldbook_card_shot(words: &[i64], options: Options) -> ShotAnswer
     ensures { (shot_answer_values result ≡ card_shot words.now options) × ShotReduced (shot_answer_values result) }
 {
-    let restored = card_words::from_words(words);
-    if !restored.whole {
-        return crate::shots::refused(lent_card::NO_CARD);
+    match card_words::from_words(words) {
+        Some(card) => shots::answer_of(fieldbook::shot_from_card(&card, options)),
+        None => shots::refused(lent_card::NO_CARD),
     }
-    let card = restored.card;
-    let shot = fieldbook::shot_from_card(card, options);
-    let outcome = shot.outcome;
-    crate::shots::answer_of(outcome)
 }

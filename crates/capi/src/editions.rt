@@ -1,16 +1,15 @@
-// Both editions of the Sun's series at an instant, for teachers: what the short one costs. Document 02, request 8.
+// Both editions of the Sun's series at an instant, for teachers: what the short one costs.
 ghost use Rattle.std.specs.Prelude.{◌≡◌};
 ghost use Rattle.short_series.specs.Editions.{editions};
 ghost use Rattle.capi.specs.Interface.{time, editions_answer_values};
 
 use calendar::CivilTime;
-use short_series::Answer;
 
 // What an instant is answered with, laid out as in C: the refusal's number, 0 for none, and in units of 0.0001 second of arc the Sun's
 // apparent longitude by the short edition and by the full one, how far they are apart the short way round, and what bounds that. A
 // refusal's are 0.
 #[repr(C)]
-#[derive(Clone, Copy)]
+#[derive(Clone, Copy, Debug, PartialEq, Eq)]
 pub struct EditionsAnswer {
     pub refusal: u64,
     pub short_edition: u64,
@@ -34,25 +33,25 @@ pub extern "C" fn fieldbook_editions(
     ensures { editions_answer_values result ≡ editions (time year month day hour minute millisecond dut1 delta_t) }
 {
     let time = CivilTime {
-        year: year,
-        month: month,
-        day: day,
-        hour: hour,
-        minute: minute,
-        millisecond: millisecond,
-        dut1: dut1,
-        delta_t: delta_t,
+        year,
+        month,
+        day,
+        hour,
+        minute,
+        millisecond,
+        dut1,
+        delta_t,
     };
     match short_series::editions(time) {
-        Answer::Compared(c) => EditionsAnswer {
+        Ok(c) => EditionsAnswer {
             refusal: 0,
             short_edition: c.short,
             full_edition: c.full,
             apart: c.apart,
             bound: c.bound,
         },
-        Answer::Refused(refusal) => EditionsAnswer {
-            refusal: refusal::number_of(refusal),
+        Err(refusal) => EditionsAnswer {
+            refusal: u64::from(refusal),
             short_edition: 0,
             full_edition: 0,
             apart: 0,

@@ -1,16 +1,15 @@
-// The pointing: the azimuth of a mark. Document 02, request 1.
+// The pointing: the azimuth of a mark.
 ghost use Rattle.std.specs.Prelude.{◌≡◌};
 ghost use Rattle.fieldbook.specs.Shot.{query};
 ghost use Rattle.pointing.specs.Pointing.{MarkReduced, pointing};
 ghost use Rattle.capi.specs.Interface.{numbers, pointing_answer_values};
 
 use fieldbook::Options;
-use pointing::Mark;
 
 // What a pointing answers, laid out as in C: the refusal's number, 0 for none, and the mark's azimuth, in units of 0.0001 second of arc,
 // 0 with a refusal.
 #[repr(C)]
-#[derive(Clone, Copy)]
+#[derive(Clone, Copy, Debug, PartialEq, Eq)]
 pub struct PointingAnswer {
     pub refusal: u64,
     pub mark: u64,
@@ -50,12 +49,9 @@ pub extern "C" fn fieldbook_pointing(
         delta_t,
     ];
     match pointing::pointing(fieldbook::query_with(&fields, options), angle) {
-        Mark::Azimuth(mark) => PointingAnswer {
-            refusal: 0,
-            mark: mark,
-        },
-        Mark::Refused(refusal) => PointingAnswer {
-            refusal: refusal::number_of(refusal),
+        Ok(mark) => PointingAnswer { refusal: 0, mark },
+        Err(refusal) => PointingAnswer {
+            refusal: u64::from(refusal),
             mark: 0,
         },
     }

@@ -1,14 +1,13 @@
-// The shot: where a body stands; and many shots in one call, document 02, request 5. Options are a struct that is passed by value, last.
+// The shot: where a body stands; and many shots in one call. Options are a struct that is passed by value, last.
 ghost use Rattle.std.specs.Prelude.{◌≡◌, ◌++◌, ◌*◌, ◌≤◌, length, drop};
-ghost use Rattle.sine_table.specs.Table.{entries};
 ghost use Rattle.card.specs.Fields.{field_count};
 ghost use Rattle.fieldbook.specs.Shot.{numbers_of, query, shot_values, refused, ShotReduced, shot};
 ghost use Rattle.capi.specs.Interface.{numbers, shot_answer_values};
 ghost use Rattle.capi.specs.Rows.{word_count, shot_words, row_count, answers_to};
 
 use card::FIELDS;
-use fieldbook::{Options, Outcome};
-use sine_table::SineTable;
+use fieldbook::{Options, ShotAngles};
+use refusal::Refusal;
 
 // How many words the answer to a row of many shots has.
 const WORDS: usize = 5;
@@ -16,7 +15,7 @@ const WORDS: usize = 5;
 // What a shot answers, laid out as in C: the refusal's number, 0 for none, and azimuth, zenith distance, hour angle and s, in units of
 // 0.0001 second of arc. A refusal's angles are 0.
 #[repr(C)]
-#[derive(Clone, Copy)]
+#[derive(Clone, Copy, Debug, PartialEq, Eq)]
 pub struct ShotAnswer {
     pub refusal: u64,
     pub azimuth: u64,
@@ -39,18 +38,18 @@ pub fn refused(number: u64) -> ShotAnswer
 }
 
 // The book's answer in those words.
-pub fn answer_of(outcome: Outcome) -> ShotAnswer
-    ensures { shot_answer_values result ≡ shot_values outcome }
+pub fn answer_of(shot: Result<ShotAngles, Refusal>) -> ShotAnswer
+    ensures { shot_answer_values result ≡ shot_values shot }
 {
-    match outcome {
-        Outcome::Answered(a) => ShotAnswer {
+    match shot {
+        Ok(a) => ShotAnswer {
             refusal: 0,
             azimuth: a.azimuth,
             zenith_distance: a.zenith_distance,
             hour_angle: a.hour_angle,
             longitude: a.longitude,
         },
-        Outcome::Refused(refusal) => refused(refusal::number_of(refusal)),
+        Err(refusal) => refused(u64::from(refusal)),
     }
 }
 
@@ -101,35 +100,32 @@ fn put(answers: &mut [u64], a: ShotAnswer)
 }
 
 // The shot of the row at the front of a list, its answer at the front of another.
-fn answer_row(t: &SineTable, rows: &[i64], answers: &mut [u64], options: Options)
-    requires { (t.now ≡ entries) × (field_count ≤ length rows.now) × (word_count ≤ length answers.old) }
+fn answer_row(rows: &[i64], answers: &mut [u64], options: Options)
+    requires { (field_count ≤ length rows.now) × (word_count ≤ length answers.old) }
     ensures { answers.new ≡ shot_words (shot (query (numbers_of rows.now) options)) ++ drop word_count answers.old }
 {
     let query = fieldbook::query_with(rows, options);
-    put(answers, answer_of(fieldbook::shot_with(t, query)));
+    put(answers, answer_of(fieldbook::shot(query)));
 }
 
 // For how many rows there are numbers, and room for their answers.
 fn row_count(rows: &[i64], answers: &[u64]) -> usize
     ensures { result ≡ row_count rows.now answers.now }
 {
-    let asked = rows.len() / FIELDS;
-    let room = answers.len() / WORDS;
-    if asked < room { asked } else { room }
+    (rows.len() / FIELDS).min(answers.len() / WORDS)
 }
 
-// The shots of rows of eleven numbers, the answers in rows of five words, with the same options and one table of the sine for all of
-// them. As many rows are answered as there are numbers and room for, and this count is returned; words that no answer takes stay as they
+// The shots of rows of eleven numbers, the answers in rows of five words, with the same options for all of them. As many rows
+// are answered as there are numbers and room for, and this count is returned; words that no answer takes stay as they
 // were.
 #[unsafe(no_mangle)]
 pub extern "C" fn fieldbook_shots(rows: &[i64], answers: &mut [u64], options: Options) -> u64
     ensures value { result ≡ row_count rows.now answers.old }
     ensures answers_after { answers.new ≡ answers_to options result rows.now ++ drop (word_count * result) answers.old }
 {
-    let t = sine_table::table();
     let count = row_count(rows, answers);
     for i in 0..count {
-        answer_row(&t, &rows[FIELDS * i..], &mut answers[WORDS * i..], options);
+        answer_row(&rows[FIELDS * i..], &mut answers[WORDS * i..], options);
     }
     count as u64
 }
