@@ -16,7 +16,7 @@ use Rattle.sine_table.specs.Step.{step}
 use Rattle.sine_table.specs.Table.{entry_at, step_count}
 use Rattle.vector_angle.specs.VectorAngle.{passes, start_passes, IsStep, unit_passes}
 use Rattle.sine_table.proofs.TableRule.{StepLaw, step-law}
-use Rattle.vector_angle.proofs.Passing.{start_is, unit-is}
+use Rattle.vector_angle.proofs.Passing.{start_is, unit_is}
 
 -- ---- in plain numbers, for any step w
 
@@ -144,12 +144,12 @@ module _ (x y n s c p q : ℕ) (e : IsStep n s c p q) (a : Among (start_passes x
 
   passes_at : (r : ℕ) → r ≤ step → 2 * (slope * r) + (x + y) * step ≤ 2 * (gap * step) → unit_passes x y n r ≡ true
   passes_at r h k =
-      unit-is n s c p q r below e h x y
+      unit_is n s c p q r below e h x y
       ∙ le-leb _ _ (surely-passes step x y (rising r) (falling r) _ _ (rounds (rising r) (lit< tt)) (rounds (falling r) (lit< tt)) (lit< tt) (omega (arith, line r h)))
 
   fails-at : (r : ℕ) → r ≤ step → 2 * (gap * step) + (x + y) * step < 2 * (slope * r) → unit_passes x y n r ≡ false
   fails-at r h k =
-      unit-is n s c p q r below e h x y
+      unit_is n s c p q r below e h x y
       ∙ lt-leb _ _ (surely-fails step x y (rising r) (falling r) _ _ (rounds (rising r) (lit< tt)) (rounds (falling r) (lit< tt)) (omega (arith, line r h)))
 
   -- ---- four units among which is the last that passes

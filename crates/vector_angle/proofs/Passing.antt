@@ -10,7 +10,8 @@ use lib.IntN.{pos, ◌*ℤ◌}
 use lib.Signed.{le_z}
 use borrow.Author.Tests.{le-leb, lt-leb, leb-true}
 use Rattle.exact.specs.Reduction.{Q}
-use Rattle.exact.proofs.Largest.{largest-is, FailsOn, by-steps}
+use Rattle.exact.specs.Largest.{Among}
+use Rattle.exact.proofs.Largest.{largest-is, FailsOn, by-steps, among_one}
 use Rattle.sine_table.specs.Step.{step}
 use Rattle.sine_table.specs.Table.{R, entry_at, step_count}
 use Rattle.sine.specs.Sine.{interpolated, sin_quadrant}
@@ -83,15 +84,23 @@ module _ (n s c p q r : ℕ) (below : n < step_count) (e : IsStep n s c p q) (h 
       let low : c - q ≡ entry_at m = omega (arith, e.next-cosine) in
       (λ i. interpolated (low i) ((e.cosine ∙ ap entry_at first) i) (step - r)) ∙ sym (sin-at m (step - (step - r)) (step - r) (omega arith) (omega arith)) ∙ ap sin_quadrant (sym rest)
 
-  pub unit-is : (x y : ℕ) → unit_passes x y n r ≡ leb (x * interpolated s (s + p) r) (y * interpolated (c - q) c (step - r))
-  unit-is x y =
+  pub unit_is : (x y : ℕ) → unit_passes x y n r ≡ leb (x * interpolated s (s + p) r) (y * interpolated (c - q) c (step - r))
+  unit_is x y =
       passes-is x y (step * n + r) (omega arith) ∙ ap₂ (λ (s c : ℕ). leb (x * s) (y * c)) (sym sine-is) (sym cosine-is)
 
 pub units-fail : (x y n : ℕ) → n < step_count → FailsOn (unit_passes x y n) step
 units-fail x y n l a b h k = fails-above x y (step * n + a) (step * n + b) (omega arith) (omega arith)
+
+-- a unit that is left alone is the last that passes
+pub only_unit : (x y n r : ℕ) → n < step_count → Among (unit_passes x y n) r 1 step → (r ≡ last_unit x y n) × (r < step)
+unfolding last_unit
+only_unit x y n r below found = (sym (among_one (unit_passes x y n) r step (units-fail x y n below) found), omega (arith, found.within))
 
 -- ---- both stages
 
 pub two-stages : (x y : ℕ) → quadrant_angle x y ≡ step * last_step x y + last_unit x y (last_step x y)
 unfolding quadrant_angle last_step last_unit
 two-stages x y = by-steps (passes x y) step step_count (lit< tt) (lit< tt) (fails-above x y) (passes-zero x y)
+
+-- for an attribute of the code, which takes no dash
+pub ruleset stages = (two-stages)

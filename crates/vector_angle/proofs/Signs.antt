@@ -63,3 +63,6 @@ nowhere (pos (suc x)) y h l k m = absurd (over_zero x l)
 nowhere (pos zero) (pos zero) h l k m = refl
 nowhere (pos zero) (pos (suc y)) h l k m = absurd (over_zero y m)
 nowhere (pos zero) (negsuc y) h l k m = absurd (no (sym k))
+
+-- ---- all branches, as the code tells them apart
+pub ruleset branches = (left_up, left_down, right-down, right-up, straight-up, nowhere)

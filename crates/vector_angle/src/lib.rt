@@ -73,6 +73,7 @@ struct Vector {
 impl Vector {
     // Whether the start of step n passes, from which on the table has `rest` steps: the sine there is an entry, and so is the cosine, as far
     // from the other end.
+    #[tactic(auto, using(crate::proofs::Passing::start_is))]
     fn start_passes(self, n: usize, rest: usize) -> bool
         requires { n + rest ≡ step_count }
         ensures { result ≡ start_passes self.x self.y n }
@@ -101,6 +102,7 @@ impl Vector {
     }
 
     // Whether the angle r units into a step passes.
+    #[tactic(auto, using(crate::proofs::Passing::unit_is))]
     fn unit_passes(self, s: Step, r: u64) -> bool
         requires { r ≤ step }
         ensures { result ≡ unit_passes self.x self.y s.n r }
@@ -139,6 +141,7 @@ impl Vector {
     }
 
     // The last unit of a step that passes. Two tries settle which of the four it is.
+    #[tactic(auto, using(crate::proofs::Passing::only_unit))]
     fn last_unit(self, s: Step) -> u64
         requires { Among (start_passes self.x self.y) s.n 1 step_count }
         ensures { (result ≡ last_unit self.x self.y s.n) × (result < step) }
@@ -148,6 +151,7 @@ impl Vector {
     }
 
     // The largest angle of the first quadrant that passes: the step by the table alone, then the units into it.
+    #[tactic(auto, using(crate::proofs::Passing::stages))]
     fn quadrant_angle(self) -> u64
         requires { 0 < self.x }
         ensures { (result ≡ quadrant_angle self.x self.y) × (result < Q) }
@@ -158,6 +162,7 @@ impl Vector {
 }
 
 // The angle of the vector (x, y), reduced: by the signs of its components, a search in the first quadrant and whole quadrants.
+#[tactic(auto, using(crate::proofs::Signs::branches))]
 pub fn angle(x: i64, y: i64) -> u64
     requires { (nat_abs x ≤ 2 ^ 34) × (nat_abs y ≤ 2 ^ 34) }
     ensures { (result ≡ angle x y) × (result < turn) }
