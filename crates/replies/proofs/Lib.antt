@@ -1,6 +1,5 @@
 -- What the proofs of several functions use.
 pub mod Grammar
-pub mod Refused
 pub mod Reading
 pub mod ReadAnswersText
 pub mod NeverEleven

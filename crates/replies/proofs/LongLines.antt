@@ -13,9 +13,7 @@ use lib.Seq.{take_all, length-take-le}
 use borrow.Author.Tests.{le-ltb, lt-ltb, ne_eqb, leb-true, leb-false}
 use Rattle.card.specs.declared.Card.{Card}
 use Rattle.lines.specs.Numerals.{digits_of, plus, minus, numeral_of, prefixed, words, row_length, if_number, numbers_behind, numbers_of}
-use Rattle.lines.specs.declared.Digits.TheVariants.{Other}
-use Rattle.lines.specs.declared.Numeral.{Numeral}
-use Rattle.lines.specs.declared.Numeral.TheVariants.{Number, NoNumber}
+use Rattle.std.proofs.Common.{Option, Some, None}
 use Rattle.lines.proofs.Words.{first_word}
 use Rattle.replies.specs.Commands.{letter_command, session_command, longest_line}
 use Rattle.replies.specs.Answers.{refusal_text, command_text, command_card, numbers_asked, options_asked, is_asked, batch_reply, reply, next}
@@ -38,10 +36,10 @@ by_order : {P : Type 0} (m n : ℕ) → (m ≤ n → P) → (n < m → P) → P
 by_order m n p q = by-leb m n (leb m n) refl p q
 
 -- a word of more than most + 1 bytes is no number
-long-digits : (most : ℕ) (l : List ℕ) → most < length l → digits_of most l ≡ Other
+long-digits : (most : ℕ) (l : List ℕ) → most < length l → digits_of most l ≡ None
 long-digits most l h = rw (le-ltb (length l) 1 (omega arith), lt-ltb most (length l) h)
 
-long-word : (most : ℕ) (l : List ℕ) → suc most < length l → numeral_of most l ≡ NoNumber
+long-word : (most : ℕ) (l : List ℕ) → suc most < length l → numeral_of most l ≡ None
 long-word most [] h = refl
 long-word most (c ∷ l) h = same (eqb c 45) (ap minus (long-digits most l (omega arith))) (ap plus (long-digits most (c ∷ l) (omega arith)))
 
@@ -71,7 +69,7 @@ module _ (most : ℕ) where
   one_more : (row : List ℤ) (z : ℤ) → (most + 2) * length (row ++ (z ∷ [])) ≡ (most + 2) * length row + (most + 2)
   one_more row z = simp length-append (mul-add (most + 2) (length row) 1 ∙ ap (λ (m : ℕ). (most + 2) * length row + m) (mul-one (most + 2)))
 
-  number-length : (w : List ℕ) (z : ℤ) → Number z ≡ numeral_of most w → length w ≤ suc most
+  number-length : (w : List ℕ) (z : ℤ) → Some z ≡ numeral_of most w → length w ≤ suc most
   number-length w z e = by_order (length w) (suc most) (λ h. h) λ h.
       let n = long-word most w h in
       absurd (let o : ◌≡◌ {A = ℕ} 0 1 = cc in omega arith)
@@ -82,12 +80,12 @@ module _ (most : ℕ) where
   fit-room true w ws row all z h f = ⊎_elim inl (λ k. let o = one_more row z in inr (omega arith)) f
   fit-room false w ws row all z h f = inl refl
 
-  fit_word : (m : Numeral) (b : Bool) (w : List ℕ) (ws : List (List ℕ)) (row : List ℤ) → m ≡ numeral_of most w
+  fit_word : (m : Option ℤ) (b : Bool) (w : List ℕ) (ws : List (List ℕ)) (row : List ℤ) → m ≡ numeral_of most w
       → ((z : ℤ) → Fit ws (row ++ (z ∷ [])) (numbers_behind (row ++ (z ∷ [])) most ws))
       → Fit (w ∷ ws) row (if_number m λ z. cond b (numbers_behind (row ++ (z ∷ [])) most ws) [])
   unfolding Fit
-  fit_word NoNumber b w ws row e f = inl refl
-  fit_word (Number z) b w ws row e f = fit-room b w ws row _ z (number-length w z e) (f z)
+  fit_word None b w ws row e f = inl refl
+  fit_word (Some z) b w ws row e f = fit-room b w ws row _ z (number-length w z e) (f z)
 
   fit : (ws : List (List ℕ)) (row : List ℤ) → Fit ws row (numbers_behind row most ws)
   unfolding Fit size numbers_behind

@@ -1,15 +1,13 @@
--- Reading a field into a part of the buffer that has room for every number of 64 bits: the buffer refuses nothing, so that what is answered goes by
--- the field alone.
+-- Reading a field into an array that has room for every number of 64 bits: it refuses nothing, so that what is answered goes by the field alone.
 use mathlib.Core.Path.{◌≡◌, refl, sym, ap, ◌∙◌}
 use mathlib.Core.Bool.{Bool, true, cond}
 use mathlib.Core.List.{List, [], ◌∷◌, ◌++◌}
-use Prim.Native.Nat.{ℕ, suc, ◌+◌, ◌-◌, ◌^◌, ◌<◌, ◌≤◌}
+use Prim.Native.Nat.{ℕ, suc, ◌+◌, ◌^◌, ◌<◌, ◌≤◌}
 use native.Mathlib.Omega.{arith}
 use lib.IntN.{ℤ, pos, negsuc, nat_abs}
-use lib.ListN.{length, take, drop, length-take, length-drop}
-use lib.Seq.{take_at, length-take-le}
+use lib.ListN.{length, take}
+use lib.Seq.{take_at}
 use borrow.Author.Tests.{le-leb}
-use borrow.Rule.Slice.PartMut.{put_mid}
 use Rattle.refusal.specs.RefusalNumbers.{number_of}
 use Rattle.refusal.specs.Tests.{test, decided}
 use Rattle.refusal.specs.declared.Refusal.{Refusal}
@@ -20,7 +18,6 @@ use Rattle.digits.proofs.Decimal.{length-digits-64}
 use Rattle.card.specs.Fields.{number_in, field_of}
 use Rattle.card.specs.Calls.{ReadValues, written_out, not_written, read_card, held_tests, read, buffer_after}
 use Rattle.card.specs.declared.Card.{Card}
-use Rattle.lines.specs.Appending.{Appends}
 use Rattle.replies.specs.Sizes.{longest}
 use Rattle.replies.specs.Answers.{refusal_text, read_text, card_read}
 
@@ -61,16 +58,15 @@ module _ (c : Card) (f : ℤ) (l : List ℕ) (e : length l ≡ longest) (small :
 
   -- a reading that wrote k bytes wrote the text
   pub said : (k : ℕ) (d : Card) → written_out k d ≡ read c f l 0
-      → (k ≡ length (read_text c f)) × (d ≡ card_read c f) × (buffer_after c f l 0 ≡ over l 0 (read_text c f)) × (k ≤ longest)
+      → (d ≡ card_read c f) × (take k (buffer_after c f l 0) ≡ read_text c f) × (k ≤ longest)
   unfolding read_text card_read
   said k d w =
       let same = w ∙ by_two wrote (not_written c) ∙ sym (wrote_so wrote (not_written c) k d w) in
       let t = wrote_so (text z) refusal_text k d w in
       let n = ap (λ (a : ReadValues). a.length) same in
       let s = text-fits z small in (
-        n ∙ ap length t,
         ap (λ (a : ReadValues). a.card) same ∙ wrote_so (read_card c f) (λ k. c) k d w,
-        by_two (over l 0 (text z)) (λ k. l) ∙ sym (wrote_so (over l 0 (text z)) (λ k. l) k d w) ∙ ap (over l 0) t,
+        ap (take k) (by_two (over l 0 (text z)) (λ k. l) ∙ sym (wrote_so (over l 0 (text z)) (λ k. l) k d w)) ∙ take_at (text z) _ k (sym n) ∙ t,
         omega arith,
       )
 
@@ -80,18 +76,3 @@ module _ (c : Card) (f : ℤ) (l : List ℕ) (e : length l ≡ longest) (small :
   not-said r d w =
       let same = w ∙ by_two wrote (not_written c) ∙ sym (refused-so wrote (not_written c) r d w) in
       (refused-so (text z) refusal_text r d w, ap (λ (a : ReadValues). a.card) same ∙ refused-so (read_card c f) (λ k. c) r d w)
-
--- ---- the part of a buffer that is lent
--- it is as long as the longest answer
-pub part_length : (place : ℕ) (l : List ℕ) → place + longest ≤ length l → length (take (place + longest - place) (drop place l)) ≡ longest
-part_length place l h = simp (length-take, length-drop) (omega arith)
-
--- what is appended there instead, where the reading was refused
-pub appended-instead : (out y x t : List ℕ) (place k : ℕ) → place + longest ≤ length out
-    → Appends (put_mid place (place + longest - place) out y) place t x k → Appends out place t x k
-appended-instead out y x t place k h a = record {
-  ends = a.ends;
-  holds =
-      a.holds
-      ∙ ap (λ (l : List ℕ). l ++ t) (take_at (take place out) (y ++ drop (place + longest - place) (drop place out)) place (length-take-le place out (omega arith)));
-}

@@ -3,25 +3,20 @@
 
 ghost use Rattle.std.specs.Prelude.{◌≡◌, suc, ◌+◌, ◌≤◌, length};
 ghost use Rattle.refusal.specs.RefusalNumbers.{number_of, verdict_number};
-ghost use Rattle.sine_table.specs.Table.{entries};
-ghost use Rattle.card.specs.Calls as Calls;
 ghost use Rattle.fieldbook.specs.Shot.{shot_values};
 ghost use Rattle.pointing.specs.Pointing.{pointing_values};
 ghost use Rattle.short_series.specs.Editions.{editions_values};
-ghost use Rattle.lines.specs.Numerals.{row_length, listed};
-ghost use Rattle.lines.specs.Appending.{Appends};
-ghost use Rattle.replies.specs.Commands.{field_command, letter_command, session_command};
+ghost use Rattle.lines.specs.Appending.{capacity, Appends};
+ghost use Rattle.replies.specs.Commands.{letter_command, session_command};
 ghost use Rattle.replies.specs.Sizes.{longest};
 ghost use Rattle.replies.specs.Answers.{labelled_text, pair_text, refusal_text, verdict_text, read_text, card_read, shot_text, mark_text, editions_text, numbers_asked, options_asked, is_asked, asked_text, batch_text, command_text, command_card, batch_reply, reply, next};
 ghost use Rattle.replies.specs.declared.Protocol.TheVariants.{Session};
 
-use card::{Card, CardAnswer, Reading};
-use fieldbook::Outcome;
-use lines::Row;
-use pointing::Mark;
-use refusal::{Refusal, Verdict};
-use short_series::Answer;
-use sine_table::SineTable;
+use card::Card;
+use fieldbook::ShotAngles;
+use lines::Output;
+use refusal::Refusal;
+use short_series::Comparison;
 
 // The most digits of a number in a line of the session, and of a batch.
 const SESSION_DIGITS: usize = 9;
@@ -32,7 +27,7 @@ const BATCH_DIGITS: usize = 18;
 const LONGEST: usize = 106;
 
 // Which program's lines.
-#[derive(Clone, Copy)]
+#[derive(Clone, Copy, Debug, PartialEq, Eq)]
 pub enum Protocol {
     // A card of fields: `H field number`, `R field`, `C field`, `S`.
     Session,
@@ -41,7 +36,7 @@ pub enum Protocol {
 }
 
 // What a line of a batch asks.
-#[derive(Clone, Copy)]
+#[derive(Clone, Copy, Debug, PartialEq, Eq)]
 pub enum Question {
     // A shot: a number for each field, in the order of the card.
     Shot,
@@ -52,8 +47,39 @@ pub enum Question {
     Editions,
 }
 
+impl Question {
+    // How many numbers its line has before its options.
+    fn numbers(self) -> usize
+        ensures { result ≡ numbers_asked self }
+    {
+        match self {
+            Question::Shot => card::FIELDS,
+            Question::Pointing => card::FIELDS + 1,
+            Question::Editions => short_series::NUMBERS,
+        }
+    }
+
+    // How many options may stand behind them.
+    fn options(self) -> usize
+        ensures { result ≡ options_asked self }
+    {
+        match self {
+            Question::Shot | Question::Pointing => fieldbook::OPTIONS,
+            Question::Editions => 0,
+        }
+    }
+
+    // Whether its line may have so many numbers: those that it takes, and options behind them.
+    fn takes(self, count: usize) -> bool
+        ensures { result ≡ is_asked self count }
+    {
+        let asked = self.numbers();
+        (asked..=asked + self.options()).contains(&count)
+    }
+}
+
 // What a line of the session asks.
-#[derive(Clone, Copy)]
+#[derive(Clone, Copy, Debug, PartialEq, Eq)]
 pub enum Command {
     Hear(i64, i64),
     Read(i64),
@@ -62,328 +88,217 @@ pub enum Command {
     Malformed,
 }
 
-// The card after a line, and where its answer ends in the buffer.
-#[derive(Clone, Copy)]
-pub struct Reply {
-    pub card: Card,
-    pub end: usize,
-}
-
-// `R` or `C`, and a field.
-fn field_command(letter: u8, field: i64) -> Command
-    ensures { result ≡ field_command letter field }
-{
-    if letter == b'R' {
-        return Command::Read(field);
-    }
-    if letter == b'C' {
-        return Command::Confirm(field);
-    }
-    Command::Malformed
-}
-
 // A letter, and the numbers behind it: `H` with a field and a number, `R` and `C` with a field.
-fn letter_command(letter: u8, row: Row) -> Command
-    ensures { result ≡ letter_command letter (listed row) }
+fn letter_command(letter: u8, numbers: &[i64]) -> Command
+    ensures { result ≡ letter_command letter numbers.now }
 {
-    let numbers = row.numbers;
-    if letter == b'H' {
-        if row.count == 2 {
-            return Command::Hear(numbers[0], numbers[1]);
-        }
-        return Command::Malformed;
+    match (letter, numbers) {
+        (b'H', [field, number]) => Command::Hear(*field, *number),
+        (b'R', [field]) => Command::Read(*field),
+        (b'C', [field]) => Command::Confirm(*field),
+        _ => Command::Malformed,
     }
-    if row.count == 1 {
-        return field_command(letter, numbers[0]);
-    }
-    Command::Malformed
 }
 
 // What a line of the session asks, given without its newline.
 pub fn session_command(line: &[u8]) -> Command
     ensures { result ≡ session_command line.now }
 {
-    if line.len() == 0 {
-        return Command::Malformed;
-    }
-    let letter = line[0];
-    if line.len() == 1 {
-        if letter == b'S' {
-            return Command::Shoot;
+    match line {
+        [b'S'] => Command::Shoot,
+        [letter, b' ', words @ ..] => {
+            letter_command(*letter, &lines::numbers_of(words, SESSION_DIGITS))
         }
-        return Command::Malformed;
+        _ => Command::Malformed,
     }
-    if line[1] != b' ' {
-        return Command::Malformed;
-    }
-    letter_command(letter, lines::numbers_of(&line[2..], SESSION_DIGITS))
 }
 
 // Appends a label and a number.
-fn append_labelled(out: &mut [u8], place: usize, label: &[u8], n: u64) -> usize
-    requires { place + (length label.now + 20) ≤ length out.old }
-    ensures appends { Appends out.old place (labelled_text label.now n) out.new result }
-    ensures upper_bound { result ≤ place + (length label.now + 20) }
+fn append_labelled(out: &mut Output<'_>, label: &[u8], n: u64)
+    requires { out.old.len + (length label.now + 20) ≤ capacity out.old }
+    ensures appends { Appends out.old (labelled_text label.now n) out.new }
+    ensures upper_bound { out.new.len ≤ out.old.len + (length label.now + 20) }
 {
-    let end = lines::append_bytes(out, place, label);
-    lines::append_decimal(out, end, n)
+    out.append(label);
+    out.append_decimal(n);
 }
 
 // Appends two labels, each with its number.
-fn append_pair(out: &mut [u8], place: usize, first: &[u8], m: u64, second: &[u8], n: u64) -> usize
-    requires { place + (length first.now + length second.now + 40) ≤ length out.old }
-    ensures appends { Appends out.old place (pair_text first.now m second.now n) out.new result }
-    ensures upper_bound { result ≤ place + (length first.now + length second.now + 40) }
+fn append_pair(out: &mut Output<'_>, first: &[u8], m: u64, second: &[u8], n: u64)
+    requires { out.old.len + (length first.now + length second.now + 40) ≤ capacity out.old }
+    ensures appends { Appends out.old (pair_text first.now m second.now n) out.new }
+    ensures upper_bound { out.new.len ≤ out.old.len + (length first.now + length second.now + 40) }
 {
-    let end = append_labelled(out, place, first, m);
-    append_labelled(out, end, second, n)
+    append_labelled(out, first, m);
+    append_labelled(out, second, n);
 }
 
 // Appends `no` and the number of a refusal.
-fn append_refusal(out: &mut [u8], place: usize, refusal: Refusal) -> usize
-    requires { place + longest ≤ length out.old }
-    ensures appends { Appends out.old place (refusal_text (number_of refusal)) out.new result }
-    ensures upper_bound { result ≤ place + longest }
+fn append_refusal(out: &mut Output<'_>, refusal: Refusal)
+    requires { out.old.len + longest ≤ capacity out.old }
+    ensures appends { Appends out.old (refusal_text (number_of refusal)) out.new }
+    ensures upper_bound { out.new.len ≤ out.old.len + longest }
 {
-    append_labelled(out, place, b"no ", refusal::number_of(refusal))
+    append_labelled(out, b"no ", u64::from(refusal));
 }
 
 // Appends `ok`, or a refusal.
-fn append_verdict(out: &mut [u8], place: usize, verdict: Verdict) -> usize
-    requires { place + longest ≤ length out.old }
-    ensures appends { Appends out.old place (verdict_text (verdict_number verdict)) out.new result }
-    ensures upper_bound { result ≤ place + longest }
+fn append_verdict(out: &mut Output<'_>, verdict: Result<(), Refusal>)
+    requires { out.old.len + longest ≤ capacity out.old }
+    ensures appends { Appends out.old (verdict_text (verdict_number verdict)) out.new }
+    ensures upper_bound { out.new.len ≤ out.old.len + longest }
 {
     match verdict {
-        Verdict::Accepted => lines::append_bytes(out, place, b"ok"),
-        Verdict::Refused(refusal) => append_refusal(out, place, refusal),
+        Ok(()) => out.append(b"ok"),
+        Err(refusal) => append_refusal(out, refusal),
     }
 }
 
 // Appends the answer to a shot: azimuth and zenith distance, and in a batch hour angle and apparent longitude behind them.
-fn append_shot(out: &mut [u8], place: usize, protocol: Protocol, shot: Outcome) -> usize
-    requires { place + longest ≤ length out.old }
-    ensures appends { Appends out.old place (shot_text protocol (shot_values shot)) out.new result }
-    ensures upper_bound { result ≤ place + longest }
+fn append_shot(out: &mut Output<'_>, protocol: Protocol, shot: Result<ShotAngles, Refusal>)
+    requires { out.old.len + longest ≤ capacity out.old }
+    ensures appends { Appends out.old (shot_text protocol (shot_values shot)) out.new }
+    ensures upper_bound { out.new.len ≤ out.old.len + longest }
 {
     match shot {
-        Outcome::Answered(a) => {
-            let end = append_pair(out, place, b"az ", a.azimuth, b" zd ", a.zenith_distance);
-            match protocol {
-                Protocol::Session => end,
-                Protocol::Batch(_) => append_pair(
-                    out,
-                    end,
-                    b" ha ",
-                    a.hour_angle,
-                    b" s ",
-                    a.longitude,
-                ),
+        Ok(a) => {
+            append_pair(out, b"az ", a.azimuth, b" zd ", a.zenith_distance);
+            if let Protocol::Batch(_) = protocol {
+                append_pair(out, b" ha ", a.hour_angle, b" s ", a.longitude);
             }
         }
-        Outcome::Refused(refusal) => append_refusal(out, place, refusal),
+        Err(refusal) => append_refusal(out, refusal),
     }
 }
 
 // Appends the answer to a pointing: the azimuth of the mark, in units of 0.0001 second of arc.
-fn append_mark(out: &mut [u8], place: usize, mark: Mark) -> usize
-    requires { place + longest ≤ length out.old }
-    ensures appends { Appends out.old place (mark_text (pointing_values mark)) out.new result }
-    ensures upper_bound { result ≤ place + longest }
+fn append_mark(out: &mut Output<'_>, mark: Result<u64, Refusal>)
+    requires { out.old.len + longest ≤ capacity out.old }
+    ensures appends { Appends out.old (mark_text (pointing_values mark)) out.new }
+    ensures upper_bound { out.new.len ≤ out.old.len + longest }
 {
     match mark {
-        Mark::Azimuth(azimuth) => append_labelled(out, place, b"mark ", azimuth),
-        Mark::Refused(refusal) => append_refusal(out, place, refusal),
+        Ok(azimuth) => append_labelled(out, b"mark ", azimuth),
+        Err(refusal) => append_refusal(out, refusal),
     }
 }
 
 // Appends the answer to an instant by both editions: the two longitudes, how far they are apart, and the bound of that.
-fn append_editions(out: &mut [u8], place: usize, answer: Answer) -> usize
-    requires { place + longest ≤ length out.old }
-    ensures appends { Appends out.old place (editions_text (editions_values answer)) out.new result }
-    ensures upper_bound { result ≤ place + longest }
+fn append_editions(out: &mut Output<'_>, answer: Result<Comparison, Refusal>)
+    requires { out.old.len + longest ≤ capacity out.old }
+    ensures appends { Appends out.old (editions_text (editions_values answer)) out.new }
+    ensures upper_bound { out.new.len ≤ out.old.len + longest }
 {
     match answer {
-        Answer::Compared(c) => {
-            let end = append_pair(out, place, b"short ", c.short, b" full ", c.full);
-            append_pair(out, end, b" apart ", c.apart, b" bound ", c.bound)
+        Ok(c) => {
+            append_pair(out, b"short ", c.short, b" full ", c.full);
+            append_pair(out, b" apart ", c.apart, b" bound ", c.bound);
         }
-        Answer::Refused(refusal) => append_refusal(out, place, refusal),
+        Err(refusal) => append_refusal(out, refusal),
     }
-}
-
-// How many numbers the line of a question has before its options.
-fn numbers_asked(question: Question) -> usize
-    ensures { result ≡ numbers_asked question }
-{
-    match question {
-        Question::Shot => card::FIELDS,
-        Question::Pointing => card::FIELDS + 1,
-        Question::Editions => short_series::NUMBERS,
-    }
-}
-
-// How many options may stand behind them.
-fn options_asked(question: Question) -> usize
-    ensures { result ≡ options_asked question }
-{
-    match question {
-        Question::Shot => fieldbook::OPTIONS,
-        Question::Pointing => fieldbook::OPTIONS,
-        Question::Editions => 0,
-    }
-}
-
-// Whether the line of a question may have so many numbers: those that it takes, and options behind them.
-fn is_asked(question: Question, count: usize) -> bool
-    ensures { result ≡ is_asked question count }
-{
-    let asked = numbers_asked(question);
-    asked <= count && count <= asked + options_asked(question)
 }
 
 // Appends the answer to a question, which as many numbers ask as it takes, and options behind them.
-fn append_asked(
-    t: &SineTable,
-    question: Question,
-    list: &[i64],
-    out: &mut [u8],
-    place: usize,
-) -> usize
-    requires { (place + longest ≤ length out.old) × (t.now ≡ entries) × (numbers_asked question ≤ length list.now) }
-    ensures appends { Appends out.old place (asked_text question list.now) out.new result }
-    ensures upper_bound { result ≤ place + longest }
+fn append_asked(out: &mut Output<'_>, question: Question, numbers: &[i64])
+    requires room { out.old.len + longest ≤ capacity out.old }
+    requires asked { numbers_asked question ≤ length numbers.now }
+    ensures appends { Appends out.old (asked_text question numbers.now) out.new }
+    ensures upper_bound { out.new.len ≤ out.old.len + longest }
 {
     match question {
         Question::Shot => {
-            let query = fieldbook::query_of(list, card::FIELDS);
-            let protocol = Protocol::Batch(Question::Shot);
-            append_shot(out, place, protocol, fieldbook::shot_with(t, query))
+            let query = fieldbook::query_of(numbers, card::FIELDS);
+            append_shot(out, Protocol::Batch(Question::Shot), fieldbook::shot(query));
         }
         Question::Pointing => {
-            let query = fieldbook::query_of(list, card::FIELDS + 1);
-            let angle = list[card::FIELDS];
-            append_mark(out, place, pointing::pointing_with(t, query, angle))
+            let query = fieldbook::query_of(numbers, card::FIELDS + 1);
+            let angle = numbers[card::FIELDS];
+            append_mark(out, pointing::pointing(query, angle));
         }
         Question::Editions => {
-            let time = short_series::time_of(list);
-            append_editions(out, place, short_series::editions_with(t, time))
+            append_editions(out, short_series::editions(short_series::time_of(numbers)));
         }
     }
 }
 
 // Appends the answer to the numbers of a line: to the question where there are as many as it takes, with options or without, else that the
 // line is malformed.
-fn append_batch(t: &SineTable, question: Question, row: Row, out: &mut [u8], place: usize) -> usize
-    requires { (place + longest ≤ length out.old) × (t.now ≡ entries) × (row.count ≤ row_length) }
-    ensures appends { Appends out.old place (batch_text question (listed row)) out.new result }
-    ensures upper_bound { result ≤ place + longest }
+fn append_batch(out: &mut Output<'_>, question: Question, numbers: &[i64])
+    requires { out.old.len + longest ≤ capacity out.old }
+    ensures appends { Appends out.old (batch_text question numbers.now) out.new }
+    ensures upper_bound { out.new.len ≤ out.old.len + longest }
 {
-    let numbers = row.numbers;
-    let count = row.count;
-    if !is_asked(question, count) {
-        return append_refusal(out, place, Refusal::Malformed);
-    }
-    append_asked(t, question, &numbers[..count], out, place)
-}
-
-// Appends the verdict of a call on a card, and hands on the card.
-fn card_reply(answer: CardAnswer, out: &mut [u8], place: usize) -> Reply
-    requires { place + longest ≤ length out.old }
-    ensures card_value { result.card ≡ (Calls.card_values answer).card }
-    ensures appends { Appends out.old place (verdict_text (Calls.card_values answer).refusal) out.new result.end }
-    ensures end_bound { result.end ≤ place + longest }
-{
-    let after = answer.card;
-    let verdict = answer.verdict;
-    let end = append_verdict(out, place, verdict);
-    Reply {
-        card: after,
-        end: end,
+    if question.takes(numbers.len()) {
+        append_asked(out, question, numbers);
+    } else {
+        append_refusal(out, Refusal::Malformed);
     }
 }
 
-// Reads a field out. A part of the buffer that has room for every number of 64 bits is lent, so that the reading always has room.
-fn read_out(card: Card, field: i64, out: &mut [u8], place: usize) -> Reply
-    requires { place + longest ≤ length out.old }
-    ensures card_value { result.card ≡ card_read card field }
-    ensures appends { Appends out.old place (read_text card field) out.new result.end }
-    ensures end_bound { result.end ≤ place + longest }
+// Reads a field out, into an array that has room for every number of 64 bits, so that the reading always has room.
+fn read_out(card: &mut Card, field: i64, out: &mut Output<'_>)
+    requires { out.old.len + longest ≤ capacity out.old }
+    ensures card_value { card.new ≡ card_read card.old field }
+    ensures appends { Appends out.old (read_text card.old field) out.new }
+    ensures end_bound { out.new.len ≤ out.old.len + longest }
 {
-    let end = place + LONGEST;
-    let r = card::read(card, field, &mut out[place..end], 0);
-    let after = r.card;
-    let reading = r.reading;
-    let end = match reading {
-        Reading::Written(length) => place + length,
-        Reading::Refused(refusal) => append_refusal(out, place, refusal),
-    };
-    Reply {
-        card: after,
-        end: end,
+    let mut text = [0u8; LONGEST];
+    match card.read(field, &mut text, 0) {
+        Ok(length) => out.append(&text[..length]),
+        Err(refusal) => append_refusal(out, refusal),
     }
 }
 
-// Does what a command asks, and appends its answer. The sine's table is lent.
-fn command_reply(t: &SineTable, command: Command, card: Card, out: &mut [u8], place: usize) -> Reply
-    requires { (place + longest ≤ length out.old) × (t.now ≡ entries) }
-    ensures card_value { result.card ≡ command_card command card }
-    ensures appends { Appends out.old place (command_text command card) out.new result.end }
-    ensures end_bound { result.end ≤ place + longest }
+// Does what a command asks, and appends its answer.
+fn command_reply(command: Command, card: &mut Card, out: &mut Output<'_>)
+    requires { out.old.len + longest ≤ capacity out.old }
+    ensures card_value { card.new ≡ command_card command card.old }
+    ensures appends { Appends out.old (command_text command card.old) out.new }
+    ensures end_bound { out.new.len ≤ out.old.len + longest }
 {
     match command {
-        Command::Hear(field, number) => card_reply(card::hear(card, field, number), out, place),
-        Command::Read(field) => read_out(card, field, out, place),
-        Command::Confirm(field) => card_reply(card::confirm(card, field), out, place),
+        Command::Hear(field, number) => append_verdict(out, card.hear(field, number)),
+        Command::Read(field) => read_out(card, field, out),
+        Command::Confirm(field) => append_verdict(out, card.confirm(field)),
         Command::Shoot => {
-            let r = fieldbook::shot_from_card_with(t, card, fieldbook::DEFAULTS);
-            let kept = r.card;
-            let outcome = r.outcome;
-            let end = append_shot(out, place, Protocol::Session, outcome);
-            Reply {
-                card: kept,
-                end: end,
-            }
+            let shot = fieldbook::shot_from_card(card, fieldbook::DEFAULTS);
+            append_shot(out, Protocol::Session, shot);
         }
-        Command::Malformed => {
-            let end = append_refusal(out, place, Refusal::Malformed);
-            Reply {
-                card: card,
-                end: end,
-            }
-        }
+        Command::Malformed => append_refusal(out, Refusal::Malformed),
     }
 }
 
 // Answers a line of the session, given without its newline: appends the answer and a newline.
-pub fn session_reply(t: &SineTable, card: Card, line: &[u8], out: &mut [u8], place: usize) -> Reply
-    requires { (place + suc longest ≤ length out.old) × (t.now ≡ entries) }
-    ensures card_value { result.card ≡ next Session card line.now }
-    ensures appends { Appends out.old place (reply Session card line.now) out.new result.end }
-    ensures end_bound { result.end ≤ place + suc longest }
+pub fn session_reply(card: &mut Card, line: &[u8], out: &mut Output<'_>)
+    requires { out.old.len + suc longest ≤ capacity out.old }
+    ensures card_value { card.new ≡ next Session card.old line.now }
+    ensures appends { Appends out.old (reply Session card.old line.now) out.new }
+    ensures end_bound { out.new.len ≤ out.old.len + suc longest }
 {
-    let r = command_reply(t, session_command(line), card, out, place);
-    let after = r.card;
-    let end = lines::append_bytes(out, r.end, b"\n");
-    Reply {
-        card: after,
-        end: end,
-    }
+    command_reply(session_command(line), card, out);
+    out.append(b"\n");
 }
 
-// Answers a line of a batch, and returns where the answer's newline ends. No card has a part in it, so none is handed about.
-pub fn batch_reply(
-    t: &SineTable,
-    question: Question,
-    line: &[u8],
-    out: &mut [u8],
-    place: usize,
-) -> usize
-    requires { (place + suc longest ≤ length out.old) × (t.now ≡ entries) }
-    ensures appends { Appends out.old place (batch_reply question line.now) out.new result }
-    ensures upper_bound { result ≤ place + suc longest }
+// Answers a line of a batch, in which no card has a part: appends the answer and a newline.
+pub fn batch_reply(question: Question, line: &[u8], out: &mut Output<'_>)
+    requires { out.old.len + suc longest ≤ capacity out.old }
+    ensures appends { Appends out.old (batch_reply question line.now) out.new }
+    ensures upper_bound { out.new.len ≤ out.old.len + suc longest }
 {
-    let row = lines::numbers_of(line, BATCH_DIGITS);
-    let end = append_batch(t, question, row, out, place);
-    lines::append_bytes(out, end, b"\n")
+    append_batch(out, question, &lines::numbers_of(line, BATCH_DIGITS));
+    out.append(b"\n");
+}
+
+// Answers a line of a program: appends the answer and a newline.
+#[tactic(auto, unfolding(crate::specs::Answers::reply, crate::specs::Answers::next))]
+pub fn reply(protocol: Protocol, card: &mut Card, line: &[u8], out: &mut Output<'_>)
+    requires { out.old.len + suc longest ≤ capacity out.old }
+    ensures card_value { card.new ≡ next protocol card.old line.now }
+    ensures appends { Appends out.old (reply protocol card.old line.now) out.new }
+    ensures end_bound { out.new.len ≤ out.old.len + suc longest }
+{
+    match protocol {
+        Protocol::Session => session_reply(card, line, out),
+        Protocol::Batch(question) => batch_reply(question, line, out),
+    }
 }
