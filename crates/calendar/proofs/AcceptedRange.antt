@@ -1,7 +1,7 @@
 -- The epochs of every accepted instant lie in the span, from the definitions alone: a date of the years accepted has its D between those of the first
 -- and the last day, a time of day its millisecond, DUT1 its 900 ms, and ΔT its 120,000.
 use mathlib.Core.Path.{◌≡◌, refl, sym, ap, subst}
-use mathlib.Core.Bool.{Bool, true, false, cond, ◌&&◌}
+use mathlib.Core.Bool.{Bool, true, false, cond, ◌&&◌, true≢false}
 use Prim.Native.Nat.{ℕ, suc, ◌+◌, ◌-◌, ◌*◌, ◌≤◌}
 use native.Mathlib.Omega.{arith}
 use lib.Dec.{eqb}
@@ -21,6 +21,17 @@ use Rattle.calendar.specs.Sizes.{UniversalSpan}
 use Rattle.calendar.specs.declared.CivilTime.{CivilTime}
 use Rattle.calendar.specs.declared.Epochs.{Epochs}
 use Rattle.calendar.proofs.Count.{upto_le, in-range}
+
+-- ---- three tests in order, of which the code tells the first two together
+pub all-three : (a b x : Bool) → (a && b) ≡ true → x ≡ (a && (b && x))
+all-three true true x e = refl
+all-three true false x e = absurd (true≢false (sym e))
+all-three false b x e = absurd (true≢false (sym e))
+
+pub not-all : (a b x : Bool) → (a && b) ≡ false → false ≡ (a && (b && x))
+not-all true true x e = absurd (true≢false e)
+not-all true false x e = refl
+not-all false b x e = refl
 
 -- ---- the eight numbers as the machine holds them
 pub record Fit (t : CivilTime) : Type 0 where

@@ -56,12 +56,12 @@ pub fn is_date(year: i64, month: i64, day: i64) -> bool
     ensures { result ≡ is_date year month day }
 {
     exact::between(1976, year, 2049)
-        && (exact::between(1, month, 12)
-            && exact::between(
-                1,
-                day,
-                month_length(exact::magnitude(year), exact::magnitude(month)) as i64,
-            ))
+        && exact::between(1, month, 12)
+        && exact::between(
+            1,
+            day,
+            month_length(exact::magnitude(year), exact::magnitude(month)) as i64,
+        )
 }
 
 // The days in the first `count` months of a year.
@@ -115,17 +115,17 @@ impl CivilTime {
         ensures { result ≡ is_time self.month self.day self.hour self.minute self.millisecond }
     {
         exact::between(0, self.hour, 23)
-            && (exact::between(0, self.minute, 59)
-                && exact::between(
-                    0,
-                    self.millisecond,
-                    last_millisecond(
-                        exact::magnitude(self.month),
-                        exact::magnitude(self.day),
-                        exact::magnitude(self.hour),
-                        exact::magnitude(self.minute),
-                    ) as i64,
-                ))
+            && exact::between(0, self.minute, 59)
+            && exact::between(
+                0,
+                self.millisecond,
+                last_millisecond(
+                    exact::magnitude(self.month),
+                    exact::magnitude(self.day),
+                    exact::magnitude(self.hour),
+                    exact::magnitude(self.minute),
+                ) as i64,
+            )
     }
 
     // The millisecond of the day.
