@@ -15,9 +15,6 @@ use epoch::Epoch;
 use secular::{Polynomial, SQUARE};
 use sine::RADIUS;
 
-// The constant of aberration, in units: 20.496″.
-const ABERRATION: i64 = 204_960;
-
 // The eccentricity of the Earth's orbit, in units of 10^−9: 0.01675104 − 0.0000418 T − 0.000000126 T² (source 004).
 const ECCENTRICITY: Polynomial = Polynomial {
     c0: 16_751_040,
@@ -73,5 +70,5 @@ pub fn aberration(radius_vector: u64) -> i64
     requires { RadiusSized radius_vector }
     ensures { (result ≡ aberration radius_vector) × (nat_abs result ≤ 2 ^ 20) }
 {
-    at_distance(ABERRATION, radius_vector)
+    at_distance(sun::ABERRATION, radius_vector)
 }
