@@ -1,9 +1,9 @@
 // Where the observer stands: the position that fields 8 and 9 of the card name. North and east are positive.
 #![tactic(auto)]
 
-ghost use Rattle.std.specs.Prelude.{◌≡◌};
+ghost use Rattle.std.specs.Prelude.{◌≡◌, IfOk};
 ghost use Rattle.site.specs.Site.{is_site, position_of, located_values};
-ghost use Rattle.site.specs.Sizes.{LocatedSized};
+ghost use Rattle.site.specs.Sizes.{PositionSized};
 
 use refusal::Refusal;
 
@@ -35,7 +35,7 @@ fn is_site(site: Site) -> bool
 
 // The position of any two numbers, or refusal 5.
 pub fn position_of(site: Site) -> Result<Position, Refusal>
-    ensures { (located_values result ≡ position_of site) × LocatedSized result }
+    ensures { (located_values result ≡ position_of site) × IfOk result PositionSized }
 {
     if !is_site(site) {
         return Err(Refusal::NoPosition);
