@@ -1,17 +1,18 @@
 -- A chunk, one line at a time.
-use mathlib.Core.Path.{◌≡◌, refl, sym, ap, ◌∙◌}
+use mathlib.Core.Path.{◌≡◌, refl, sym, ap, ◌∙◌, subst}
 use mathlib.Core.Bool.{Bool, true, false, cond}
 use mathlib.Core.List.{List, [], ◌∷◌, ◌++◌, append_assoc, append-nil}
 use Prim.Native.Nat.{ℕ, suc, ◌<◌, ◌≤◌}
 use native.Mathlib.Omega.{arith}
 use lib.Dec.{eqb}
 use lib.ListN.{length, take, drop}
-use lib.Seq.{take_all}
 use Rattle.card.specs.declared.Card.{Card}
 use Rattle.replies.specs.Answers.{reply, next}
 use Rattle.replies.specs.declared.Protocol.{Protocol}
-use Rattle.stream.specs.Feeding.{Progress, behind, progress, held, kept_length, progress_from, last_reply, Feeds}
+use Rattle.stream.specs.Feeding.{Progress, behind, progress, kept_length, progress_from, last_reply, Feeds}
 use Rattle.stream.specs.declared.State.{State}
+use Rattle.lines.specs.Appending.{Appends}
+use Rattle.lines.specs.declared.output.Output.{Output}
 use Rattle.lines.specs.Bytes.{index_after, index_of}
 
 -- output before output
@@ -56,30 +57,22 @@ module _ (p : Protocol) (c : Card) where
 -- what the loop over a chunk has written, and what it has yet to read, make what the whole chunk makes
 module _ (p : Protocol) (first s : State) (chunk l o : List ℕ) (e : behind o (progress_from p s l) ≡ progress_from p first chunk) where
   -- one line more
-  pub one_line : (t : State) (u : List ℕ) → index_of 10 l < length l → t.card ≡ next p s.card (held s.kept ++ take (index_of 10 l) l)
-      → held t.kept ≡ [] → u ≡ o ++ reply p s.card (held s.kept ++ take (index_of 10 l) l)
-      → behind u (progress_from p t (drop (suc (index_of 10 l)) l)) ≡ progress_from p first chunk
-  one_line t u h f g k =
-      rw (k, f, g)
-      (behind-both o (reply p s.card (held s.kept ++ take (index_of 10 l) l)) _
-      ∙ ap (behind o) (sym (line-ended p s.card (held s.kept) l h)) ∙ e)
+  pub one_line : (t : State) → index_of 10 l < length l → t.card ≡ next p s.card (s.kept.items ++ take (index_of 10 l) l) → t.kept.items ≡ []
+      → behind (o ++ reply p s.card (s.kept.items ++ take (index_of 10 l) l)) (progress_from p t (drop (suc (index_of 10 l)) l)) ≡ progress_from p first chunk
+  one_line t h f g =
+      rw (f, g)
+      (behind-both o (reply p s.card (s.kept.items ++ take (index_of 10 l) l)) _
+      ∙ ap (behind o) (sym (line-ended p s.card s.kept.items l h)) ∙ e)
 
   -- the rest is kept
-  pub the_rest : (t : State) → length l ≤ index_of 10 l → t.card ≡ s.card → held t.kept ≡ take kept_length (held s.kept ++ l)
-      → Feeds p first chunk t o
-  the_rest t h f g =
-      let r = sym (ap (behind o) (rest-left p s.card (held s.kept) l h)) ∙ e in
+  pub the_rest : (t : State) (x y : Output) → Appends x o y → length l ≤ index_of 10 l → t.card ≡ s.card → t.kept.items ≡ take kept_length (s.kept.items ++ l)
+      → Feeds p first chunk t x y
+  the_rest t x y a h f g =
+      let r = sym (ap (behind o) (rest-left p s.card s.kept.items l h)) ∙ e in
       record {
-        wrote = sym (append-nil o) ∙ ap (λ (q : Progress). q.output) r;
+        wrote = subst (λ w. Appends x w y) (sym (append-nil o) ∙ ap (λ (q : Progress). q.output) r) a;
         keeps = record { card = f ∙ ap (λ (q : Progress). q.card) r; line = g ∙ ap (λ (q : Progress). take kept_length q.line) r };
       }
-
-  -- no rest is left
-  pub no-rest : l ≡ [] → length (held s.kept) ≤ kept_length → Feeds p first chunk s o
-  unfolding index_of
-  no-rest n h =
-      the_rest s (rw n (omega arith)) refl
-      (rw (n, append-nil (held s.kept)) (sym (take_all kept_length (held s.kept) h)))
 
 -- a last line without a newline
 pub last_line : (p : Protocol) (c : Card) (l : List ℕ) → (length l ≡ 0 → ⊥) → reply p c l ≡ last_reply p c l

@@ -1,13 +1,14 @@
--- Document 01, "One session, whole" (RULES.md, "Lines"), for an input that comes in chunks: what is written for a chunk, and the card and the
+-- RULES.md, "Lines", for an input that comes in chunks: what is written for a chunk, and the card and the
 -- unfinished line that it leaves.
 use Rattle.std.specs.Prelude.{◌≡◌, cond, List, [], ◌∷◌, ◌++◌, ℕ, suc, eqb, take}
 use Rattle.card.specs.Fields.{fresh_card}
 use Rattle.card.specs.declared.Card.{Card}
+use Rattle.lines.specs.Appending.{Appends}
+use Rattle.lines.specs.declared.output.Output.{Output}
 use Rattle.replies.specs.Commands.{longest_line}
 use Rattle.replies.specs.Answers.{reply, next}
 use Rattle.replies.specs.declared.Protocol.{Protocol}
 use Rattle.stream.specs.Run.{run}
-use Rattle.stream.specs.declared.Kept.{Kept}
 use Rattle.stream.specs.declared.State.{State}
 
 -- what a chunk brings about: the output, the card afterwards, and the unfinished line behind the last newline
@@ -39,22 +40,18 @@ kept_length = suc longest_line
 abbrev pub cut : Progress → Progress
 cut r = record { output = r.output; card = r.card; line = take kept_length r.line }
 
--- the bytes that are kept
-abbrev pub held : Kept → List ℕ
-held k = take k.len k.bytes
-
 -- from a state
 abbrev pub progress_from : Protocol → State → List ℕ → Progress
-progress_from p s chunk = progress p s.card (held s.kept) chunk
+progress_from p s chunk = progress p s.card s.kept.items chunk
 
 -- a state that holds what was brought about
 pub record Keeps (s : State) (r : Progress) : Type 0 where
   pub card : s.card ≡ r.card
-  pub line : held s.kept ≡ r.line
+  pub line : s.kept.items ≡ r.line
 
--- what is written, and the state that is kept
-pub record Feeds (p : Protocol) (before : State) (chunk : List ℕ) (after : State) (output : List ℕ) : Type 0 where
-  pub wrote : output ≡ (progress_from p before chunk).output
+-- what is written, behind what was before, and the state that is kept
+pub record Feeds (p : Protocol) (before : State) (chunk : List ℕ) (after : State) (out_before out_after : Output) : Type 0 where
+  pub wrote : Appends out_before (progress_from p before chunk).output out_after
   pub keeps : Keeps after (cut (progress_from p before chunk))
 
 -- chunks, one after the other, where `begun` is kept of an unfinished line already

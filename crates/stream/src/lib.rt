@@ -2,17 +2,17 @@
 #![tactic(auto)]
 
 ghost use Rattle.std.specs.Prelude.{◌≡◌, [], ◌++◌, ◌+◌, ◌*◌, ◌≤◌, length, take};
-ghost use Rattle.sine_table.specs.Table.{entries};
 ghost use Rattle.card.specs.Fields.{fresh_card};
-ghost use Rattle.lines.specs.Appending.{Appends};
+ghost use Rattle.lines.specs.Appending.{capacity, written, Appends};
 ghost use Rattle.replies.specs.Answers.{reply, next};
-ghost use Rattle.replies.specs.declared.Protocol.TheVariants.{Session, Batch};
 ghost use Rattle.stream.specs.Sizes.{chunk_length, room};
-ghost use Rattle.stream.specs.Feeding.{kept_length, held, last_reply, Feeds, Reached, Completes};
+ghost use Rattle.stream.specs.Feeding.{kept_length, last_reply, Feeds, Reached, Completes};
+ghost use Rattle.stream.specs.declared.State.{State};
 
+use arrayvec::ArrayVec;
 use card::Card;
-use replies::{Protocol, Question};
-use sine_table::SineTable;
+use lines::Output;
+use replies::Protocol;
 use std::io;
 use std::io::{Read, Write};
 
@@ -24,319 +24,141 @@ const CHUNK: usize = 4_096;
 
 const OUTPUT: usize = 438_272;
 
-// The unfinished line: the first `len` bytes of the array.
-#[derive(Clone, Copy)]
-pub struct Kept {
-    pub bytes: [u8; KEPT],
-    pub len: usize,
-}
-
-// What a program holds between two chunks.
-#[derive(Clone, Copy)]
+// What a program holds between two chunks: the card, and what is kept of the unfinished line.
+#[derive(Drop)]
 pub struct State {
     pub card: Card,
-    pub kept: Kept,
+    pub kept: ArrayVec<u8, KEPT>,
 }
 
-// The state after a chunk, and where its output ends in the buffer.
-#[derive(Clone, Copy)]
-pub struct Fed {
-    pub state: State,
-    pub end: usize,
-}
-
-fn no_line() -> Kept
-    ensures { held result ≡ [] }
-{
-    Kept {
-        bytes: [0u8; KEPT],
-        len: 0,
-    }
-}
-
-// A fresh card, and no line begun.
-pub fn start() -> State
-    ensures { (result.card ≡ fresh_card) × (held result.kept ≡ []) }
-{
-    let card = card::fresh();
-    let kept = no_line();
-    State {
-        card: card,
-        kept: kept,
-    }
-}
-
-// How many bytes are kept: never more than there are.
-fn held_length(kept: Kept) -> usize
-    ensures { (result ≤ kept_length) × (take result kept.bytes ≡ held kept) }
-{
-    if kept.len < KEPT { kept.len } else { KEPT }
-}
-
-// The unfinished line with a piece more.
-fn keep(kept: Kept, piece: &[u8]) -> Kept
-    ensures result_value { held result ≡ take kept_length (held kept ++ piece.now) }
-    ensures len_le_kept_length { result.len ≤ kept_length }
-{
-    let mut bytes = kept.bytes;
-    let mut len = held_length(kept);
-    let mut i = 0;
-    while i < piece.len() {
-        if KEPT <= len {
-            return Kept {
-                bytes: bytes,
-                len: len,
-            };
+impl State {
+    // A fresh card, and no line begun.
+    pub fn start() -> State
+        ensures { (result.card ≡ fresh_card) × (result.kept.items ≡ []) }
+    {
+        State {
+            card: Card::fresh(),
+            kept: ArrayVec::new(),
         }
-        bytes[len] = piece[i];
-        len += 1;
-        i += 1;
     }
-    Kept {
-        bytes: bytes,
-        len: len,
-    }
-}
 
-// Answers the line of the session that a piece ends.
-fn end_session_line(t: &SineTable, state: State, piece: &[u8], out: &mut [u8], place: usize) -> Fed
-    requires { (place + room ≤ length out.old) × (t.now ≡ entries) }
-    ensures card_value { result.state.card ≡ next Session state.card (held state.kept ++ piece.now) }
-    ensures kept_value { held result.state.kept ≡ [] }
-    ensures appends { Appends out.old place (reply Session state.card (held state.kept ++ piece.now)) out.new result.end }
-    ensures end_bound { result.end ≤ place + room }
-{
-    let card = state.card;
-    let kept = state.kept;
-    let none = no_line();
-    if kept.len == 0 {
-        let r = replies::session_reply(t, card, piece, out, place);
-        let after = r.card;
-        let fresh = State {
-            card: after,
-            kept: none,
-        };
-        return Fed {
-            state: fresh,
-            end: r.end,
-        };
+    // Keeps a piece more of the unfinished line, as much of it as there is room for.
+    fn keep(&mut self, piece: &[u8])
+        ensures card_value { self.new.card ≡ self.old.card }
+        ensures kept_value { self.new.kept.items ≡ take kept_length (self.old.kept.items ++ piece.now) }
+    {
+        let more = piece.len().min(self.kept.remaining_capacity());
+        self.kept.try_extend_from_slice(&piece[..more]).unwrap();
     }
-    let line = keep(kept, piece);
-    let bytes = line.bytes;
-    let len = line.len;
-    let r = replies::session_reply(t, card, &bytes[..len], out, place);
-    let after = r.card;
-    let fresh = State {
-        card: after,
-        kept: none,
-    };
-    Fed {
-        state: fresh,
-        end: r.end,
-    }
-}
 
-// Answers the line of a batch that a piece ends. The card stays where it is.
-fn end_batch_line(
-    t: &SineTable,
-    question: Question,
-    state: State,
-    piece: &[u8],
-    out: &mut [u8],
-    place: usize,
-) -> Fed
-    requires { (place + room ≤ length out.old) × (t.now ≡ entries) }
-    ensures card_value { result.state.card ≡ next (Batch question) state.card (held state.kept ++ piece.now) }
-    ensures kept_value { held result.state.kept ≡ [] }
-    ensures appends { Appends out.old place (reply (Batch question) state.card (held state.kept ++ piece.now)) out.new result.end }
-    ensures end_bound { result.end ≤ place + room }
-{
-    let card = state.card;
-    let kept = state.kept;
-    if kept.len == 0 {
-        let end = replies::batch_reply(t, question, piece, out, place);
-        let fresh = State {
-            card: card,
-            kept: kept,
-        };
-        return Fed {
-            state: fresh,
-            end: end,
-        };
-    }
-    let line = keep(kept, piece);
-    let bytes = line.bytes;
-    let len = line.len;
-    let end = replies::batch_reply(t, question, &bytes[..len], out, place);
-    let none = no_line();
-    let fresh = State {
-        card: card,
-        kept: none,
-    };
-    Fed {
-        state: fresh,
-        end: end,
-    }
-}
-
-// Answers the line that a piece ends.
-fn end_line(
-    t: &SineTable,
-    protocol: Protocol,
-    state: State,
-    piece: &[u8],
-    out: &mut [u8],
-    place: usize,
-) -> Fed
-    requires { (place + room ≤ length out.old) × (t.now ≡ entries) }
-    ensures card_value { result.state.card ≡ next protocol state.card (held state.kept ++ piece.now) }
-    ensures kept_value { held result.state.kept ≡ [] }
-    ensures appends { Appends out.old place (reply protocol state.card (held state.kept ++ piece.now)) out.new result.end }
-    ensures end_bound { result.end ≤ place + room }
-{
-    match protocol {
-        Protocol::Session => end_session_line(t, state, piece, out, place),
-        Protocol::Batch(question) => end_batch_line(t, question, state, piece, out, place),
-    }
-}
-
-// Keeps the piece of a line that a chunk ends with.
-fn keep_rest(state: State, piece: &[u8]) -> State
-    ensures card_value { result.card ≡ state.card }
-    ensures kept_value { held result.kept ≡ take kept_length (held state.kept ++ piece.now) }
-{
-    let card = state.card;
-    let begun = state.kept;
-    let kept = keep(begun, piece);
-    State {
-        card: card,
-        kept: kept,
-    }
-}
-
-// Takes a chunk of input: answers each line that it ends, and keeps the rest.
-pub fn feed(t: &SineTable, protocol: Protocol, state: State, chunk: &[u8], out: &mut [u8]) -> Fed
-    requires { (length chunk.now * room ≤ length out.old) × (t.now ≡ entries) }
-    ensures feeds { Feeds protocol state chunk.now result.state (take result.end out.new) }
-    ensures end_in_bounds { result.end ≤ length out.old }
-{
-    let mut s = state;
-    let mut end = 0;
-    let mut from = 0;
-    while from < chunk.len() {
-        // the part is lent, and not the chunk with its bounds: that takes some 220 instructions less for a line of a batch
-        let left = chunk.len() - from;
-        let stop = from + lines::find(&chunk[from..], 0, left, b'\n');
-        if chunk.len() <= stop {
-            let rest = keep_rest(s, &chunk[from..]);
-            return Fed {
-                state: rest,
-                end: end,
-            };
+    // Answers the line that a piece ends.
+    fn end_line(&mut self, protocol: Protocol, piece: &[u8], out: &mut Output<'_>)
+        requires { out.old.len + room ≤ capacity out.old }
+        ensures card_value { self.new.card ≡ next protocol self.old.card (self.old.kept.items ++ piece.now) }
+        ensures kept_value { self.new.kept.items ≡ [] }
+        ensures appends { Appends out.old (reply protocol self.old.card (self.old.kept.items ++ piece.now)) out.new }
+        ensures end_bound { out.new.len ≤ out.old.len + room }
+    {
+        if self.kept.is_empty() {
+            replies::reply(protocol, &mut self.card, piece, out);
+        } else {
+            self.keep(piece);
+            replies::reply(protocol, &mut self.card, &self.kept, out);
+            self.kept.clear();
         }
-        let fed = end_line(t, protocol, s, &chunk[from..stop], out, end);
-        s = fed.state;
-        end = fed.end;
-        from = stop + 1;
     }
-    Fed { state: s, end: end }
-}
 
-// Answers the last line of the input, where it lacks its newline, and returns where the output ends.
-pub fn finish(t: &SineTable, protocol: Protocol, state: State, out: &mut [u8]) -> usize
-    requires { (room ≤ length out.old) × (t.now ≡ entries) }
-    ensures out_after { take result out.new ≡ last_reply protocol state.card (held state.kept) }
-    ensures upper_bound { result ≤ length out.old }
-{
-    let kept = state.kept;
-    if held_length(kept) == 0 {
-        return 0;
+    // Takes a chunk of input: answers each line that it ends, and keeps the rest.
+    pub fn feed(&mut self, protocol: Protocol, chunk: &[u8], out: &mut Output<'_>)
+        requires { out.old.len + length chunk.now * room ≤ capacity out.old }
+        ensures { Feeds protocol self.old chunk.now self.new out.old out.new }
+    {
+        let mut rest = chunk;
+        loop {
+            let (piece, behind) = rest.split_at(lines::find(rest, b'\n'));
+            let Some((_newline, next)) = behind.split_first() else {
+                return self.keep(piece);
+            };
+            self.end_line(protocol, piece, out);
+            rest = next;
+        }
     }
-    let fed = end_line(t, protocol, state, b"", out, 0);
-    fed.end
+
+    // Answers the last line of the input, where it lacks its newline.
+    pub fn finish(&mut self, protocol: Protocol, out: &mut Output<'_>)
+        requires { out.old.len + room ≤ capacity out.old }
+        ensures { Appends out.old (last_reply protocol self.old.card self.old.kept.items) out.new }
+    {
+        if !self.kept.is_empty() {
+            self.end_line(protocol, b"", out);
+        }
+    }
 }
 
-// A round of the loop that reads: how many bytes came, and what they made.
-#[derive(Clone, Copy)]
-struct Round {
-    came: usize,
-    fed: Fed,
-}
-
-// Reads once, and answers what came; nothing comes where the input has ended or cannot be read. No contract can say which bytes the system reads: here
-// they are what the call left at the front of `input`.
+// Reads once, answers what came, and says how many bytes came: none where the input has ended or cannot be read. No contract can say which bytes the
+// system reads: here they are what the call left at the front of `input`.
 fn feed_some<R: Read>(
-    t: &SineTable,
+    state: &mut State,
     protocol: Protocol,
-    state: State,
     reader: &mut R,
     input: &mut [u8],
-    out: &mut [u8],
-) -> Round
-    requires { (length input.old * room ≤ length out.old) × (t.now ≡ entries) }
-    ensures feeds { Feeds protocol state (take result.came input.new) result.fed.state (take result.fed.end out.new) }
-    ensures came_in_bounds { result.came ≤ length input.old }
-    ensures end_in_bounds { result.fed.end ≤ length out.old }
+    out: &mut Output<'_>,
+) -> usize
+    requires { out.old.len + length input.old * room ≤ capacity out.old }
+    ensures feeds { Feeds protocol state.old (take result input.new) state.new out.old out.new }
+    ensures came_in_bounds { result ≤ length input.old }
 {
-    let n = reader.read(input).unwrap_or(0);
-    let fed = feed(t, protocol, state, &input[..n], out);
-    Round { came: n, fed: fed }
+    let came = reader.read(input).unwrap_or(0);
+    state.feed(protocol, &input[..came], out);
+    came
 }
 
 // Reads to the input's end, and writes what each chunk made before it reads the next; a write that fails ends it too. No contract can say what the
 // system writes. A proved loop has to end, so this one has a number of rounds that no run uses up.
 fn feed_input<R: Read, W: Write>(
-    t: &SineTable,
     protocol: Protocol,
     reader: &mut R,
     writer: &mut W,
-    out: &mut [u8],
+    out: &mut Output<'_>,
 ) -> State
-    requires { (chunk_length * room ≤ length out.old) × (t.now ≡ entries) }
-    ensures { Reached protocol result }
+    requires { chunk_length * room ≤ capacity out.old }
+    ensures reached { Reached protocol result }
+    ensures room_after { capacity out.new ≡ capacity out.old }
 {
     let mut input = [0u8; CHUNK];
-    let mut state = start();
+    let mut state = State::start();
     for _round in 0..u64::MAX {
-        let round = feed_some(t, protocol, state, reader, &mut input, out);
-        let fed = round.fed;
-        let end = fed.end;
-        state = fed.state;
-        let written = writer.write_all(&out[..end]).is_ok();
-        if round.came == 0 || !written {
+        out.clear();
+        let came = feed_some(&mut state, protocol, reader, &mut input, out);
+        let written = writer.write_all(out.written()).is_ok();
+        if came == 0 || !written {
             break;
         }
     }
     state
 }
 
-// Reads to the input's end, and answers a last line that lacks its newline: what stands at the front of `out` then is yet to be written.
+// Reads to the input's end, and answers a last line that lacks its newline: what stands in `out` then is yet to be written.
 fn run_with<R: Read, W: Write>(
-    t: &SineTable,
     protocol: Protocol,
     reader: &mut R,
     writer: &mut W,
-    out: &mut [u8],
-) -> Fed
-    requires { (chunk_length * room ≤ length out.old) × (t.now ≡ entries) }
-    ensures completes { Completes protocol result.state (take result.end out.new) }
-    ensures end_in_bounds { result.end ≤ length out.old }
+    out: &mut Output<'_>,
+)
+    requires { chunk_length * room ≤ capacity out.old }
+    ensures { (last : State) × Completes protocol last (written out.new) }
 {
-    let last = feed_input(t, protocol, reader, writer, out);
-    let end = finish(t, protocol, last, out);
-    Fed {
-        state: last,
-        end: end,
-    }
+    let mut state = feed_input(protocol, reader, writer, out);
+    out.clear();
+    state.finish(protocol, out);
 }
 
-// Runs a program: reads standard input to its end and writes the answers of each chunk as it comes in. The sine's table is named once, for the run.
+// Runs a program: reads standard input to its end and writes the answers of each chunk as it comes in.
 pub fn run(rt: &(impl Input + Print), protocol: Protocol) {
-    let t = sine_table::table();
-    let mut output = [0u8; OUTPUT];
+    let mut buffer = [0u8; OUTPUT];
+    let mut out = Output::new(&mut buffer);
     let mut reader = rt.reader();
     let mut writer = io::writer(rt);
-    let fed = run_with(&t, protocol, &mut reader, &mut writer, &mut output);
-    let end = fed.end;
-    let _ = writer.write_all(&output[..end]);
+    run_with(protocol, &mut reader, &mut writer, &mut out);
+    let _ = writer.write_all(out.written());
 }

@@ -1,5 +1,7 @@
 use Rattle.stream.proofs.Rounds.{last-round}
 use Rattle.stream.proofs.run_with.Goals as goal
 
-pub returns-clause-completes : goal.returns-clause-completes
-returns-clause-completes g c = last-round c.args.protocol c.feed_input-last.result _ c.feed_input-last.ensures c.finish-end.ensures.out_after
+pub returns : goal.returns
+returns g c =
+    let last = c.feed_input-state.result in
+    (last, last-round c.args.protocol last _ c.feed_input-state.ensures.reached (rw c.clear.ensures.none at c.finish.ensures.holds))

@@ -1,10 +1,9 @@
-use Rattle.std.proofs.Common.{◌≡◌, ◌+◌, ◌++◌, suc, length, take, drop, sym, ap, ◌∙◌, add-one, arith}
+use Rattle.std.proofs.Common.{◌≡◌, ◌++◌, suc, length, take, drop, sym, ap, ◌∙◌, add-one, arith}
 use Rattle.std.proofs.Math.Seq.{take_all}
 use Rattle.lines.specs.Bytes.{index_of}
 use Rattle.lines.proofs.Appending.{append-both}
 use Rattle.lines.proofs.Words as Words
 use Rattle.replies.specs.Answers.{reply}
-use Rattle.stream.specs.Feeding.{kept_length}
 use Rattle.stream.proofs.Pieces.{one_line, the_rest}
 use Rattle.stream.proofs.State.feed.Goals as goal
 
@@ -36,6 +35,6 @@ loop-newline-preserved c =
         i.made.0 ++ reply c.args.protocol s.card (s.kept.items ++ take (index_of 10 l) l),
         append-both i.made.1 appends,
         rw next
-        (one_line c.args.protocol c.args.self.now s c.args.chunk.now l i.made.0 i.made.2 c.end_line.new.self (omega (arith, q.1, b.back_len, c.find.ensures.0)) card r.kept_value),
+            (one_line c.args.protocol c.args.self.now s c.args.chunk.now l i.made.0 i.made.2 c.end_line.new.self (omega (arith, q.1, b.back_len, c.find.ensures.0)) card r.kept_value),
       );
     }
