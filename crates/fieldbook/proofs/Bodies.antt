@@ -5,7 +5,7 @@ use Prim.Native.Nat.{ℕ, ◌^◌}
 use lib.IntN.{ℤ, pos}
 use mir.Syntax.{w64}
 use mir.Val.{SFits}
-use Rattle.exact.proofs.Machine.{fits_lt, fits_le}
+use Rattle.exact.proofs.Machine.{fits_lt}
 use Rattle.sun.specs.Longitude.{aberration, apparent_longitude, centre_longitude}
 use Rattle.sun.specs.Direction as Sun
 use Rattle.polaris.specs.Apparent as Polaris
@@ -15,13 +15,7 @@ use Rattle.fieldbook.specs.Shot.{sun_longitude, sun_direction, polaris_direction
 use Rattle.fieldbook.specs.declared.Astrometry.{Astrometry}
 
 module _ (k : Astrometry) where
-  -- ---- the frame's numbers fit
-  pub epsilon0-fits : SFits w64 k.frame.epsilon0
-  epsilon0-fits = fits_lt (2 ^ 34) k.frame.epsilon0 k.known.frame.epsilon0-size refl
-
-  pub dpsi-fits : SFits w64 k.frame.dpsi
-  dpsi-fits = fits_le (2 ^ 20) k.frame.dpsi k.known.frame.dpsi-size refl
-
+  -- ---- the frame's obliquity fits
   pub epsilon-fits : SFits w64 k.frame.epsilon
   epsilon-fits = fits_lt (2 ^ 35) k.frame.epsilon k.known.frame.epsilon-size refl
 

@@ -150,7 +150,7 @@ impl Astrometry {
         let e = epochs.ephemeris;
         let arguments = arguments::arguments_of(e);
         let frame = frame::frame_of(&arguments, e);
-        let sidereal = frame::sidereal_time(epochs.universal, frame.dpsi, frame.epsilon);
+        let sidereal = frame::sidereal_time(epochs.universal, frame);
         Astrometry {
             epochs,
             arguments,
@@ -191,9 +191,8 @@ impl Astrometry {
         ensures { (shot_values result ≡ polaris_shot self.now.epochs position) × ShotReduced (shot_values result) }
     {
         let e = self.epochs.ephemeris;
-        let f = self.frame;
         let g = sun::centre_longitude(&self.arguments, e);
-        let d = polaris::direction(e, f.epsilon0, f.dpsi, f.epsilon, g);
+        let d = polaris::direction(e, self.frame, g);
         self.sighted_shot(d, 0, position)
     }
 }

@@ -74,10 +74,10 @@ fn equinoxes(dpsi: i64, epsilon: i64) -> i64
 
 // Greenwich sidereal time at an epoch of universal time, with the equation of the equinoxes. In a millisecond the Earth rotates by 150 units;
 // the day begins at midnight, and N counts from noon.
-pub fn sidereal_time(universal: Epoch, dpsi: i64, epsilon: i64) -> u64
-    requires { (nat_abs dpsi ≤ 2 ^ 20) × (nat_abs epsilon < 2 ^ 35) }
-    ensures { (result ≡ sidereal_time universal dpsi epsilon) × (result < turn) }
+pub fn sidereal_time(universal: Epoch, f: Frame) -> u64
+    requires { (nat_abs f.dpsi ≤ 2 ^ 20) × (nat_abs f.epsilon < 2 ^ 35) }
+    ensures { (result ≡ sidereal_time universal f.dpsi f.epsilon) × (result < turn) }
 {
     let excess = arguments::argument(tables::SIDEREAL, universal) as i64;
-    exact::reduced_bounded(150 * (universal.n + 43_200_000) + excess + equinoxes(dpsi, epsilon))
+    exact::reduced_bounded(150 * (universal.n + 43_200_000) + excess + equinoxes(f.dpsi, f.epsilon))
 }

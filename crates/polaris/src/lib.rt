@@ -14,9 +14,10 @@ ghost use Rattle.rotation.specs.Length.{squared_length, growth};
 ghost use Rattle.rotation.specs.Sizes.{reach, Bounded};
 ghost use Rattle.polaris.specs.Elements.{tropical_millionths, elements_of};
 ghost use Rattle.polaris.specs.Apparent.{scaled, catalogue, precessed, nutated, true_direction, aberration_parts, aberration, plus, direction};
-ghost use Rattle.polaris.specs.Sizes.{ElementsSized, direction_most};
+ghost use Rattle.polaris.specs.Sizes.{ElementsSized, FrameSized, direction_most};
 
 use epoch::Epoch;
+use frame::Frame;
 use rotation::Direction;
 
 // The epoch 1975.0, in milliseconds since 1900 January 0.5: Julian date 2442413.478 (001 section 3.2).
@@ -90,22 +91,22 @@ fn precessed(k: Elements, d: Direction) -> Direction
 
 // Nutation, from the mean equinox of the date to the true one.
 #[tactic(auto, unfolding(crate::specs::Apparent::nutated))]
-fn nutated(epsilon0: i64, dpsi: i64, epsilon: i64, d: Direction) -> Direction
-    requires { (nat_abs epsilon0 < 2 ^ 40) × (nat_abs dpsi < 2 ^ 40) × (nat_abs epsilon < 2 ^ 40) × (squared_length d + 2 * growth ≤ reach) }
-    ensures { (result ≡ nutated epsilon0 dpsi epsilon d) × (squared_length result ≤ squared_length d + 3 * growth) }
+fn nutated(f: Frame, d: Direction) -> Direction
+    requires { FrameSized f × (squared_length d + 2 * growth ≤ reach) }
+    ensures { (result ≡ nutated f.epsilon0 f.dpsi f.epsilon d) × (squared_length result ≤ squared_length d + 3 * growth) }
 {
-    let a = rotation::rotated(rotation::rotation1(epsilon0), d);
-    rotation::rotated(rotation::rotation1(-epsilon), rotated_back(dpsi, a))
+    let a = rotation::rotated(rotation::rotation1(f.epsilon0), d);
+    rotation::rotated(rotation::rotation1(-f.epsilon), rotated_back(f.dpsi, a))
 }
 
-// The direction without aberration, of ε₀, Δψ and ε.
+// The direction without aberration, of ε₀, Δψ and ε, which are a frame.
 #[tactic(auto, unfolding(crate::specs::Apparent::true_direction))]
-pub fn true_direction(k: Elements, epsilon0: i64, dpsi: i64, epsilon: i64) -> Direction
-    requires { ElementsSized k × (nat_abs epsilon0 < 2 ^ 40) × (nat_abs dpsi < 2 ^ 40) × (nat_abs epsilon < 2 ^ 40) }
-    ensures { (result ≡ true_direction k epsilon0 dpsi epsilon) × (squared_length result ≤ circle_most + 7 * growth) }
+pub fn true_direction(k: Elements, f: Frame) -> Direction
+    requires { ElementsSized k × FrameSized f }
+    ensures { (result ≡ true_direction k f.epsilon0 f.dpsi f.epsilon) × (squared_length result ≤ circle_most + 7 * growth) }
 {
     let d = catalogue(k.alpha, k.delta);
-    nutated(epsilon0, dpsi, epsilon, precessed(k, d))
+    nutated(f, precessed(k, d))
 }
 
 // a·b over R, to nearest.
@@ -137,15 +138,12 @@ fn plus(d: Direction, a: Direction) -> Direction
     [d[0] + a[0], d[1] + a[1], d[2] + a[2]]
 }
 
-// The apparent direction of Polaris at an epoch, of ε₀, Δψ, ε and g.
+// The apparent direction of Polaris at an epoch, of ε₀, Δψ and ε, which are a frame, and of g.
 #[tactic(auto, unfolding(crate::specs::Apparent::direction))]
-pub fn direction(e: Epoch, epsilon0: i64, dpsi: i64, epsilon: i64, g: u64) -> Direction
-    requires { (nat_abs epsilon0 < 2 ^ 40) × (nat_abs dpsi < 2 ^ 40) × (nat_abs epsilon < 2 ^ 40) × (g < turn) }
-    ensures { (result ≡ direction e epsilon0 dpsi epsilon g) × (squared_length result ≤ direction_most) }
+pub fn direction(e: Epoch, f: Frame, g: u64) -> Direction
+    requires { FrameSized f × (g < turn) }
+    ensures { (result ≡ direction e f.epsilon0 f.dpsi f.epsilon g) × (squared_length result ≤ direction_most) }
 {
     let k = elements_of(tropical_millionths(e));
-    plus(
-        true_direction(k, epsilon0, dpsi, epsilon),
-        aberration(epsilon, g),
-    )
+    plus(true_direction(k, f), aberration(f.epsilon, g))
 }

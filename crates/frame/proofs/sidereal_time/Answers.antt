@@ -1,5 +1,5 @@
 -- The row is worked as an argument is, and reducing it first changes nothing (reduction is a congruence).
-use mathlib.Core.Path.{◌≡◌, ap, ap₂, ◌∙◌}
+use mathlib.Core.Path.{◌≡◌, refl, ap, ap₂, ◌∙◌}
 use Prim.Native.Nat.{ℕ, ◌≤◌, ◌<◌, ◌^◌}
 use native.Mathlib.Omega.{arith}
 use lib.IntN.{ℤ, pos, nat_abs, ◌+ℤ◌, ◌*ℤ◌}
@@ -11,7 +11,7 @@ use Rattle.exact.specs.Century.{century}
 use Rattle.exact.specs.Division.{floor_div, nearest_div}
 use Rattle.exact.specs.Nth.{nth}
 use Rattle.exact.proofs.Differences.{split, zs}
-use Rattle.exact.proofs.Machine.{ok-fits}
+use Rattle.exact.proofs.Machine.{ok-fits, fits_lt, fits_le}
 use Rattle.exact.proofs.Reduction.{reduced-part}
 use Rattle.secular.specs.FlooredPolynomial.{polynomial, value}
 use Rattle.epoch.specs.Epoch.{Epoch}
@@ -68,8 +68,9 @@ module _ (c : After-equinoxes) where
   late : Sums n (pos found) x
   late = sums n (pos found) x (n-size c.universal.invariant) found-is.1 c.equinoxes.ensures.1
 
-  x-is : x ≡ equinoxes c.args.dpsi c.args.epsilon
-  x-is = simp (to_z-of_z, c.ranges.dpsi, c.ranges.epsilon) at c.equinoxes.ensures.0
+  x-is : x ≡ equinoxes c.args.f.dpsi c.args.f.epsilon
+  x-is =
+      simp (to_z-of_z, fits_le (2 ^ 20) c.args.f.dpsi c.requires.0 refl, fits_lt (2 ^ 35) c.args.f.epsilon c.requires.1 refl) at c.equinoxes.ensures.0
 
   x_fits : SFits w64 x
   x_fits = ok-fits x c.equinoxes.type_inv
@@ -85,5 +86,5 @@ returns c =
     let r = simp (to_z-of_z, f.0, f.1, l.0, l.1, l.2, l.3, x_fits b) at c.reduced_bounded.ensures.0 in
     let a = c.args in
     let is = ap₂ (λ (a : ℕ) (x : ℤ). reduced (day (n b) +ℤ pos a +ℤ x)) (found-is b).0 (x-is b) in
-    let universal = ap (λ (n : ℤ). reduced (day n +ℤ pos (argument sidereal a.universal) +ℤ equinoxes a.dpsi a.epsilon)) (n-is b) in
-    (r ∙ is ∙ universal ∙ whole a.universal a.dpsi a.epsilon, c.reduced_bounded.ensures.1)
+    let universal = ap (λ (n : ℤ). reduced (day n +ℤ pos (argument sidereal a.universal) +ℤ equinoxes a.f.dpsi a.f.epsilon)) (n-is b) in
+    (r ∙ is ∙ universal ∙ whole a.universal a.f.dpsi a.f.epsilon, c.reduced_bounded.ensures.1)

@@ -3,23 +3,20 @@ use mathlib.Core.Path.{ap, ◌∙◌}
 use mathlib.Core.List.{List}
 use lib.IntN.{ℤ}
 use native.Mathlib.Omega.{arith}
-use mir.Facts.{to_z-of_z}
 use Rattle.fieldbook.specs.Shot.{view_at}
 use Rattle.fieldbook.specs.Parts.{sighted_shot, polaris_shot}
-use Rattle.fieldbook.proofs.Bodies.{epsilon0-fits, dpsi-fits, epsilon-fits, polaris-is}
+use Rattle.fieldbook.proofs.Bodies.{polaris-is}
 use Rattle.fieldbook.proofs.Astrometry.polaris_shot.Goals as goal
 
 pub direction-d-requires : goal.direction-d-requires
 direction-d-requires c =
     let k = c.args.self.now in
     let f = k.known.frame in
-    simp (to_z-of_z, epsilon0-fits k, dpsi-fits k, epsilon-fits k)
-    (omega (arith, f.epsilon0-size), omega (arith, f.dpsi-size), omega (arith, f.epsilon-size), c.centre_longitude-g.ensures.1)
+    (record { epsilon0 = omega (arith, f.epsilon0-size); dpsi = omega (arith, f.dpsi-size); epsilon = omega (arith, f.epsilon-size) }, c.centre_longitude-g.ensures.1)
 
 pub returns : goal.returns
 unfolding polaris_shot
 returns c =
     let k = c.args.self.now in
-    let vector = simp (to_z-of_z, epsilon0-fits k, dpsi-fits k, epsilon-fits k) at c.direction-d.ensures.0 in
-    let seen = polaris-is k _ _ c.centre_longitude-g.ensures.0 vector in
+    let seen = polaris-is k _ _ c.centre_longitude-g.ensures.0 c.direction-d.ensures.0 in
     (c.sighted_shot.ensures.0 ∙ ap (λ (d : List ℤ). sighted_shot (view_at k.epochs c.args.position d) 0) seen, c.sighted_shot.ensures.1)
