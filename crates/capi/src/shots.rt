@@ -92,11 +92,13 @@ fn put(answers: &mut [u64], a: ShotAnswer)
     requires { word_count ≤ length answers.old }
     ensures { answers.new ≡ shot_words (shot_answer_values a) ++ drop word_count answers.old }
 {
-    answers[0] = a.refusal;
-    answers[1] = a.azimuth;
-    answers[2] = a.zenith_distance;
-    answers[3] = a.hour_angle;
-    answers[4] = a.longitude;
+    answers[..WORDS].copy_from_slice(&[
+        a.refusal,
+        a.azimuth,
+        a.zenith_distance,
+        a.hour_angle,
+        a.longitude,
+    ]);
 }
 
 // The shot of the row at the front of a list, its answer at the front of another.
@@ -124,6 +126,7 @@ pub extern "C" fn fieldbook_shots(rows: &[i64], answers: &mut [u64], options: Op
     ensures answers_after { answers.new ≡ answers_to options result rows.now ++ drop (word_count * result) answers.old }
 {
     let count = row_count(rows, answers);
+    // Kept: rows by their index, not by `zip` with `chunks_exact_mut`: nothing is known afterwards of what a loop wrote through such chunks.
     for i in 0..count {
         answer_row(&rows[FIELDS * i..], &mut answers[WORDS * i..], options);
     }
