@@ -1,7 +1,7 @@
 // A direction at an observer's horizon. Latitude and longitude are in units of 0.0001 second of arc, north and east positive.
 #![tactic(auto)]
 
-ghost use Rattle.std.specs.Prelude.{◌≡◌, ◌+◌, ◌*◌, ◌≤◌, ◌<◌, ◌^◌, nat_abs, pos};
+ghost use Rattle.std.specs.Prelude.{◌≡◌, ◌+◌, ◌*◌, ◌≤◌, ◌<◌, ◌^◌, nat_abs, pos, IfOk};
 ghost use Rattle.exact.specs.Reduction.{turn};
 ghost use Rattle.rotation.specs.Length.{squared_length, growth};
 ghost use Rattle.rotation.specs.Sizes.{reach, component_most};
@@ -69,7 +69,7 @@ impl View {
     // The angles of the body; refusal 7 before 8.
     #[tactic(auto, unfolding(crate::specs::Horizon::sight_of))]
     fn angles(self) -> Result<SightAngles, Refusal>
-        ensures { (sight_values result ≡ sight_of (view self.x self.up self.east self.north)) × SightReduced result }
+        ensures { (sight_values result ≡ sight_of (view self.x self.up self.east self.north)) × IfOk result SightReduced }
     {
         if self.up < 0 {
             return Err(Refusal::BelowHorizon);
@@ -91,7 +91,7 @@ impl View {
 #[tactic(auto, unfolding(crate::specs::Horizon::view_from))]
 pub fn sight(d: Direction, sidereal: u64, position: Position) -> Result<SightAngles, Refusal>
     requires { (squared_length d + 2 * growth ≤ reach) × (sidereal < turn) × PositionSized position }
-    ensures { (sight_values result ≡ sight_of (view_from (pos sidereal) position d)) × SightReduced result }
+    ensures { (sight_values result ≡ sight_of (view_from (pos sidereal) position d)) × IfOk result SightReduced }
 {
     let m = to_meridian(d, sidereal, position.longitude);
     let [up, east, north] = to_horizon(m, position.latitude);
