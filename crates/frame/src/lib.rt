@@ -26,13 +26,7 @@ pub fn dpsi(arguments: &[i64], e: Epoch) -> i64
     requires { IsArguments arguments.now }
     ensures { (result ≡ dpsi arguments.now e.q) × (nat_abs result ≤ 2 ^ 20) }
 {
-    series::rounded_sum(
-        &tables::DPSI_VARYING,
-        &tables::DPSI_GROUPS,
-        &tables::DPSI_ROWS,
-        arguments,
-        e.q,
-    )
+    tables::DPSI.rounded_sum(arguments, e.q)
 }
 
 // Δε of an epoch, from its arguments.
@@ -40,13 +34,7 @@ fn deps(arguments: &[i64], e: Epoch) -> i64
     requires { IsArguments arguments.now }
     ensures { (result ≡ deps arguments.now e.q) × (nat_abs result ≤ 2 ^ 20) }
 {
-    series::rounded_sum(
-        &tables::DEPS_VARYING,
-        &tables::DEPS_GROUPS,
-        &tables::DEPS_ROWS,
-        arguments,
-        e.q,
-    )
+    tables::DEPS.rounded_sum(arguments, e.q)
 }
 
 // The frame of an epoch, from its arguments.

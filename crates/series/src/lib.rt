@@ -21,6 +21,14 @@ ghost use Rattle.series.specs.Sizes.{heaviest, AtMost, steady_bounds, GroupReady
 
 use secular::Polynomial;
 
+// The rows of a series: those of the terms whose amplitudes vary, and the groups and the rows of the others.
+#[derive(Clone, Copy)]
+pub struct Series<'a> {
+    pub varying: &'a [[i64; 6]],
+    pub groups: &'a [[usize; 4]],
+    pub rows: &'a [[i64; 5]],
+}
+
 // An amplitude times the sine of an angle that need not be reduced.
 fn product(amplitude: i64, angle: i64) -> i64
     requires { (nat_abs amplitude ≤ 2 ^ 29) × (nat_abs angle ≤ 2 ^ 61) }
@@ -53,21 +61,6 @@ fn group_sum(i: usize, j: usize, k: usize, rows: &[[i64; 5]], arguments: &[i64])
     sum
 }
 
-// The exact sum of the terms whose amplitudes are steady, the same at every q.
-pub fn steady_sum(groups: &[[usize; 4]], rows: &[[i64; 5]], arguments: &[i64]) -> i64
-    requires { SteadyReady groups.now rows.now arguments.now }
-    ensures { ((q : ℤ) → result ≡ total Sin arguments.now q (steady_terms groups.now rows.now)) × (nat_abs result ≤ R * weights (steady_terms groups.now rows.now)) }
-{
-    let mut sum: i64 = 0;
-    let mut rest = rows;
-    for &[i, j, k, count] in groups {
-        let (own, others) = rest.split_at(count);
-        sum += group_sum(i, j, k, own, arguments);
-        rest = others;
-    }
-    sum
-}
-
 // The product of a row whose amplitude varies.
 fn varying_product(row: [i64; 6], arguments: &[i64], q: i64) -> i64
     requires { AllReduced arguments.now × (nat_abs q ≤ most_millionths) × VaryingRow (length arguments.now) row }
@@ -86,32 +79,6 @@ fn varying_product(row: [i64; 6], arguments: &[i64], q: i64) -> i64
     )
 }
 
-// The exact sum of the terms whose amplitudes vary, at q.
-fn varying_sum(varying: &[[i64; 6]], arguments: &[i64], q: i64) -> i64
-    requires { VaryingReady varying.now arguments.now q }
-    ensures { (result ≡ total Sin arguments.now q (varying_terms varying.now)) × (nat_abs result ≤ R * weights (varying_terms varying.now)) }
-{
-    let mut sum: i64 = 0;
-    for row in varying {
-        sum += varying_product(*row, arguments, q);
-    }
-    sum
-}
-
-// The exact sum of a series at q: of the terms whose amplitudes vary, and then of the others.
-pub fn sum(
-    varying: &[[i64; 6]],
-    groups: &[[usize; 4]],
-    rows: &[[i64; 5]],
-    arguments: &[i64],
-    q: i64,
-) -> i64
-    requires { VaryingReady varying.now arguments.now q × SteadyReady groups.now rows.now arguments.now }
-    ensures { (result ≡ total Sin arguments.now q (terms varying.now groups.now rows.now)) × (nat_abs result ≤ R * weights (terms varying.now groups.now rows.now)) }
-{
-    varying_sum(varying, arguments, q) + steady_sum(groups, rows, arguments)
-}
-
 // A sum in units: one division by R, to nearest.
 pub fn rounded(sum: i64) -> i64
     requires { nat_abs sum ≤ R * heaviest }
@@ -120,16 +87,47 @@ pub fn rounded(sum: i64) -> i64
     exact::nearest_div(sum, sine::RADIUS)
 }
 
-// The sum of a series at q, in units.
-pub fn rounded_sum(
-    varying: &[[i64; 6]],
-    groups: &[[usize; 4]],
-    rows: &[[i64; 5]],
-    arguments: &[i64],
-    q: i64,
-) -> i64
-    requires { VaryingReady varying.now arguments.now q × SteadyReady groups.now rows.now arguments.now × (weights (terms varying.now groups.now rows.now) ≤ heaviest) }
-    ensures { (result ≡ table_sum arguments.now q (terms varying.now groups.now rows.now)) × (nat_abs result ≤ weights (terms varying.now groups.now rows.now)) }
-{
-    rounded(sum(varying, groups, rows, arguments, q))
+impl Series<'_> {
+    // The exact sum of the terms whose amplitudes are steady, the same at every q.
+    pub fn steady_sum(&self, arguments: &[i64]) -> i64
+        requires { SteadyReady self.now.groups.now self.now.rows.now arguments.now }
+        ensures { ((q : ℤ) → result ≡ total Sin arguments.now q (steady_terms self.now.groups.now self.now.rows.now)) × (nat_abs result ≤ R * weights (steady_terms self.now.groups.now self.now.rows.now)) }
+    {
+        let mut sum: i64 = 0;
+        let mut rest = self.rows;
+        for &[i, j, k, count] in self.groups {
+            let (own, others) = rest.split_at(count);
+            sum += group_sum(i, j, k, own, arguments);
+            rest = others;
+        }
+        sum
+    }
+
+    // The exact sum of the terms whose amplitudes vary, at q.
+    fn varying_sum(&self, arguments: &[i64], q: i64) -> i64
+        requires { VaryingReady self.now.varying.now arguments.now q }
+        ensures { (result ≡ total Sin arguments.now q (varying_terms self.now.varying.now)) × (nat_abs result ≤ R * weights (varying_terms self.now.varying.now)) }
+    {
+        let mut sum: i64 = 0;
+        for row in self.varying {
+            sum += varying_product(*row, arguments, q);
+        }
+        sum
+    }
+
+    // The exact sum of all its terms at q.
+    pub fn sum(&self, arguments: &[i64], q: i64) -> i64
+        requires { VaryingReady self.now.varying.now arguments.now q × SteadyReady self.now.groups.now self.now.rows.now arguments.now }
+        ensures { (result ≡ total Sin arguments.now q (terms self.now.varying.now self.now.groups.now self.now.rows.now)) × (nat_abs result ≤ R * weights (terms self.now.varying.now self.now.groups.now self.now.rows.now)) }
+    {
+        self.varying_sum(arguments, q) + self.steady_sum(arguments)
+    }
+
+    // The sum of all its terms at q, in units.
+    pub fn rounded_sum(&self, arguments: &[i64], q: i64) -> i64
+        requires { VaryingReady self.now.varying.now arguments.now q × SteadyReady self.now.groups.now self.now.rows.now arguments.now × (weights (terms self.now.varying.now self.now.groups.now self.now.rows.now) ≤ heaviest) }
+        ensures { (result ≡ table_sum arguments.now q (terms self.now.varying.now self.now.groups.now self.now.rows.now)) × (nat_abs result ≤ weights (terms self.now.varying.now self.now.groups.now self.now.rows.now)) }
+    {
+        rounded(self.sum(arguments, q))
+    }
 }

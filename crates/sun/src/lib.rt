@@ -36,13 +36,7 @@ fn centre_sum(arguments: &[i64], q: i64) -> i64
     requires { IsArguments arguments.now × (nat_abs q ≤ most_millionths) }
     ensures { (result ≡ total Sin arguments.now q centre) × (nat_abs result ≤ R * 2 ^ 27) }
 {
-    series::sum(
-        &tables::CENTRE_VARYING,
-        &tables::CENTRE_GROUPS,
-        &tables::CENTRE_ROWS,
-        arguments,
-        q,
-    )
+    tables::CENTRE.sum(arguments, q)
 }
 
 // The equation of the centre at an epoch, from its arguments, in units.
@@ -66,7 +60,7 @@ fn periodic_sum(arguments: &[i64]) -> i64
     requires { IsArguments arguments.now }
     ensures { ((q : ℤ) → result ≡ total Sin arguments.now q periodic) × (nat_abs result ≤ R * 2 ^ 27) }
 {
-    series::steady_sum(&tables::PERIODIC_GROUPS, &tables::PERIODIC_ROWS, arguments)
+    tables::PERIODIC.steady_sum(arguments)
 }
 
 // The exact sum of the terms of the short edition at an epoch.
@@ -83,13 +77,7 @@ fn further_sum(arguments: &[i64; arguments::COUNT], e: Epoch) -> i64
     ensures { (result ≡ total Sin (full_arguments_of e) e.q further) × (nat_abs result ≤ R * 2 ^ 27) }
 {
     let all = arguments::full_arguments_of(arguments, e);
-    series::sum(
-        &tables::FURTHER_VARYING,
-        &tables::FURTHER_GROUPS,
-        &tables::FURTHER_ROWS,
-        &all,
-        e.q,
-    )
+    tables::FURTHER.sum(&all, e.q)
 }
 
 // The exact sum of the terms of the full edition, from that of the short one.

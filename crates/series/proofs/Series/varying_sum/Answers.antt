@@ -15,8 +15,8 @@ use Rattle.series.specs.Sum.{total}
 use Rattle.series.specs.Rows.{varying_term, varying_terms}
 use Rattle.series.proofs.Sums.{sum-le}
 use Rattle.series.proofs.Loops.{RowsLeft, row_fits, row_next, rows-sum}
-use Rattle.series.proofs.varying_sum.Goals.{After-varying_product-sum}
-use Rattle.series.proofs.varying_sum.Goals as goal
+use Rattle.series.proofs.Series.varying_sum.Goals.{After-varying_product-sum}
+use Rattle.series.proofs.Series.varying_sum.Goals as goal
 
 -- q as the machine holds it
 q-le : (q : ℤ) → SFits w64 q → nat_abs q ≤ most_millionths → nat_abs (to_z w64 (of_z w64 q)) ≤ most_millionths
@@ -28,7 +28,7 @@ module _ (c : After-varying_product-sum) where
   arguments = c.args.arguments.now
 
   abbrev rows : List (List ℤ)
-  rows = c.args.varying.now
+  rows = c.args.self.now.varying.now
 
   abbrev q : ℤ
   q = to_z w64 (of_z w64 c.args.q)
@@ -65,7 +65,7 @@ loop-row-preserved c = let e = next c in rw (to_z-of_z (p-fits c), to_z-of_z (ro
 pub returns : goal.returns
 returns c =
     let q = to_z w64 (of_z w64 c.args.q) in
-    let e = rows-sum c.args.arguments.now q varying_term c.args.varying.now c.loop-row.row-index (to_z w64 c.loop-row.sum-bits) (omega arith) c.loop-row.invariant in (
-      e ∙ ap (λ (z : ℤ). total Sin c.args.arguments.now z (varying_terms c.args.varying.now)) (to_z-of_z c.ranges.q),
-      rw e (sum-le c.args.arguments.now q (q-le c.args.q c.ranges.q c.requires.moment) (varying_terms c.args.varying.now)),
+    let e = rows-sum c.args.arguments.now q varying_term c.args.self.now.varying.now c.loop-row.row-index (to_z w64 c.loop-row.sum-bits) (omega arith) c.loop-row.invariant in (
+      e ∙ ap (λ (z : ℤ). total Sin c.args.arguments.now z (varying_terms c.args.self.now.varying.now)) (to_z-of_z c.ranges.q),
+      rw e (sum-le c.args.arguments.now q (q-le c.args.q c.ranges.q c.requires.moment) (varying_terms c.args.self.now.varying.now)),
     )

@@ -18,8 +18,8 @@ use Rattle.series.specs.Sizes.{counts, Each, AtMost, steady_bounds}
 use Rattle.series.proofs.Sizes.{each_front, each_behind}
 use Rattle.series.proofs.Sums.{sum-le}
 use Rattle.series.proofs.Loops.{Left, left-none, left-fits, left-next, lights, group_terms, behind, groups-next, counts-next}
-use Rattle.series.proofs.steady_sum.Goals.{After-group_sum-sum}
-use Rattle.series.proofs.steady_sum.Goals as goal
+use Rattle.series.proofs.Series.steady_sum.Goals.{After-group_sum-sum}
+use Rattle.series.proofs.Series.steady_sum.Goals as goal
 
 -- ---- the group of a round: its rows and those of the groups behind it are there
 room : (groups : List (List ℕ)) (rest : List (List ℤ)) (i : ℕ) → i < length groups → counts (drop i groups) ≤ length rest
@@ -32,18 +32,18 @@ left : (groups : List (List ℕ)) (rest : List (List ℤ)) (i : ℕ) (inside : i
 left groups rest i inside whole arguments q sum l = subst (λ (ts : List Term). Left arguments q whole ts sum) (groups-next groups rest i inside) l
 
 pub split_at-requires : goal.split_at-requires
-split_at-requires c = let h = room c.args.groups.now c.loop-i.rest.now c.loop-i.i-index c.loop-i-test.true c.loop-i.invariant.enough in omega arith
+split_at-requires c = let h = room c.args.self.now.groups.now c.loop-i.rest.now c.loop-i.i-index c.loop-i-test.true c.loop-i.invariant.enough in omega arith
 
 pub group_sum-sum-requires : goal.group_sum-sum-requires
 group_sum-sum-requires c =
     let i = c.loop-i.i-index in
-    let groups = c.args.groups.now in
+    let groups = c.args.self.now.groups.now in
     let rest = c.loop-i.rest.now in
     let arguments = c.args.arguments.now in
     let inside : i < length groups = c.loop-i-test.true in
     let p = c.requires.indexed i inside in
     let m = room groups rest i inside c.loop-i.invariant.enough in
-    let l = left groups rest i inside (steady_terms groups c.args.rows.now) arguments (pos 0) (to_z w64 c.loop-i.sum-bits) (c.loop-i.invariant.left (pos 0)) in
+    let l = left groups rest i inside (steady_terms groups c.args.self.now.rows.now) arguments (pos 0) (to_z w64 c.loop-i.sum-bits) (c.loop-i.invariant.left (pos 0)) in
     rw (c.split_at.ensures.front)
     (record {
       angles = c.requires.angles;
@@ -57,7 +57,7 @@ group_sum-sum-requires c =
 -- ---- what it adds
 module _ (c : After-group_sum-sum) where
   abbrev groups : List (List ℕ)
-  groups = c.args.groups.now
+  groups = c.args.self.now.groups.now
 
   abbrev rest : List (List ℤ)
   rest = c.loop-i.rest.now
@@ -75,7 +75,7 @@ module _ (c : After-group_sum-sum) where
   inside = c.loop-i-test.true
 
   abbrev whole : List Term
-  whole = steady_terms groups c.args.rows.now
+  whole = steady_terms groups c.args.self.now.rows.now
 
   abbrev some : List Term
   some = group_terms groups rest i inside
@@ -124,9 +124,9 @@ loop-i-preserved c =
 pub returns : goal.returns
 unfolding steady_terms
 returns c =
-    let groups = c.args.groups.now in
+    let groups = c.args.self.now.groups.now in
     let arguments = c.args.arguments.now in
-    let ts = steady_terms groups c.args.rows.now in
+    let ts = steady_terms groups c.args.self.now.rows.now in
     let sum = to_z w64 c.loop-i.sum-bits in
     let none = drop_of_length-le groups {i = c.loop-i.i-index} (omega arith) in
     let e : (q : ℤ) → sum ≡ total Sin arguments q ts = λ q. left-none arguments q ts sum (subst (λ (gs : List (List ℕ)). Left arguments q ts (steady_terms gs c.loop-i.rest.now) sum) none (c.loop-i.invariant.left q)) in

@@ -12,15 +12,15 @@ use Rattle.sine.specs.Sine.{Sin}
 use Rattle.series.specs.Term.{Term}
 use Rattle.series.specs.Sum.{total, table_sum, weights}
 use Rattle.series.specs.Rows as Rows
-use Rattle.series.proofs.rounded_sum.Goals.{After-sum, Start}
-use Rattle.series.proofs.rounded_sum.Goals as goal
+use Rattle.series.proofs.Series.rounded_sum.Goals.{After-sum, Start}
+use Rattle.series.proofs.Series.rounded_sum.Goals as goal
 
 module _ (c : After-sum) where
   abbrev start : Start
   start = c.before
 
   abbrev terms : List Term
-  terms = Rows.terms start.args.varying.now start.args.groups.now start.args.rows.now
+  terms = Rows.terms start.args.self.now.varying.now start.args.self.now.groups.now start.args.self.now.rows.now
 
   sum_is : c.sum.result ≡ total Sin start.args.arguments.now start.args.q terms
   sum_is = simp (to_z-of_z, start.ranges.q) at c.sum.ensures.0

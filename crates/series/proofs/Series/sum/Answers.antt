@@ -17,8 +17,8 @@ use Rattle.series.specs.Sum.{total, weights}
 use Rattle.series.specs.Rows.{varying_terms, steady_terms}
 use Rattle.series.specs.Sizes.{heaviest}
 use Rattle.series.proofs.Sums.{total-append, weights-append}
-use Rattle.series.proofs.sum.Goals.{After-steady_sum, Start}
-use Rattle.series.proofs.sum.Goals as goal
+use Rattle.series.proofs.Series.sum.Goals.{After-steady_sum, Start}
+use Rattle.series.proofs.Series.sum.Goals as goal
 
 two-le : (a b : ℤ) (m n : ℕ) → nat_abs a ≤ R * m → nat_abs b ≤ R * n → nat_abs (a +ℤ b) ≤ R * (m + n)
 two-le a b m n = rw (split a, split b) (simp zs (omega arith))
@@ -34,10 +34,10 @@ module _ (c : After-steady_sum) where
   b = c.steady_sum.result
 
   abbrev varying : List Term
-  varying = varying_terms start.args.varying.now
+  varying = varying_terms start.args.self.now.varying.now
 
   abbrev steady : List Term
-  steady = steady_terms start.args.groups.now start.args.rows.now
+  steady = steady_terms start.args.self.now.groups.now start.args.self.now.rows.now
 
   a-is : (a ≡ total Sin start.args.arguments.now start.args.q varying) × (nat_abs a ≤ R * weights varying)
   a-is = simp (to_z-of_z, start.ranges.q) at c.before.varying_sum.ensures
