@@ -9,7 +9,7 @@ use Rattle.exact.proofs.Machine.{fits_lt}
 use Rattle.sun.specs.Longitude.{aberration, apparent_longitude, centre_longitude}
 use Rattle.sun.specs.Direction as Sun
 use Rattle.polaris.specs.Apparent as Polaris
-use Rattle.site.specs.declared.Position.{Position}
+use Rattle.site.specs.Site.{Position}
 use Rattle.horizon.specs.Horizon.{view_from}
 use Rattle.fieldbook.specs.Shot.{sun_longitude, sun_direction, polaris_direction, view_at}
 use Rattle.fieldbook.specs.declared.Astrometry.{Astrometry}

@@ -15,7 +15,7 @@ use Rattle.calendar.specs.declared.Epochs.{Epochs}
 use Rattle.site.specs.Site as Site
 use Rattle.site.specs.Site.{LocatedValues, position, site_tests, position_of}
 use Rattle.site.specs.declared.Site.{Site}
-use Rattle.site.specs.declared.Position.{Position}
+use Rattle.site.specs.Site.{Position}
 use Rattle.horizon.specs.Horizon as Horizon
 use Rattle.horizon.specs.Horizon.{View, SightValues, seen, sight_tests, sight_of}
 use Rattle.card.specs.Confirmed.{ConfirmedValues, numbers_in, card_tests, given, withheld, confirmed_numbers}

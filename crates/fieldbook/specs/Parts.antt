@@ -5,7 +5,7 @@ use Rattle.refusal.specs.Tests.{decided}
 use Rattle.calendar.specs.declared.Epochs.{Epochs}
 use Rattle.site.specs.Site.{position}
 use Rattle.site.specs.declared.Site.{Site}
-use Rattle.site.specs.declared.Position.{Position}
+use Rattle.site.specs.Site.{Position}
 use Rattle.horizon.specs.Horizon.{View, sight_tests}
 use Rattle.fieldbook.specs.Shot.{ShotValues, refused, answered, sun_longitude, sun_direction, polaris_direction, longitude_of, view_at, body_view, tests_from, tests_at, answer_from}
 use Rattle.fieldbook.specs.declared.Options.{Options}

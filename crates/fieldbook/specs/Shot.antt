@@ -21,7 +21,7 @@ use Rattle.sun.specs.Direction as Sun
 use Rattle.polaris.specs.Apparent as Polaris
 use Rattle.site.specs.Site.{position, site_tests}
 use Rattle.site.specs.declared.Site.{Site}
-use Rattle.site.specs.declared.Position.{Position}
+use Rattle.site.specs.Site.{Position}
 use Rattle.horizon.specs.Horizon.{View, view_from, seen, sight_tests}
 use Rattle.card.specs.Confirmed.{numbers_in, card_tests}
 use Rattle.card.specs.declared.Card.{Card}

@@ -5,7 +5,6 @@ ghost use Rattle.std.specs.Prelude.{◌≡◌, ◌+◌, ◌*◌, ◌<◌, ◌≤
 ghost use Rattle.exact.specs.Reduction.{turn};
 ghost use Rattle.rotation.specs.Length.{squared_length, growth};
 ghost use Rattle.rotation.specs.Sizes.{reach};
-ghost use Rattle.site.specs.Sizes.{PositionSized};
 ghost use Rattle.card.specs.Fields.{field_count};
 ghost use Rattle.fieldbook.specs.Shot.{numbers_of, options_of, query, query_of, shot_values, ShotReduced, view_at, shot, shot_from_card};
 ghost use Rattle.fieldbook.specs.Parts.{sighted_shot, sun_shot, polaris_shot};
@@ -161,7 +160,7 @@ impl Astrometry {
 
     // A body in direction d from a position, with the longitude s that its answer gives.
     fn sighted_shot(&self, d: Direction, s: u64, position: Position) -> Result<ShotAngles, Refusal>
-        requires { (squared_length d + 2 * growth ≤ reach) × (s < turn) × PositionSized position }
+        requires { (squared_length d + 2 * growth ≤ reach) × (s < turn) }
         ensures { (shot_values result ≡ sighted_shot (view_at self.now.epochs position d) s) × ShotReduced (shot_values result) }
     {
         let sight = horizon::sight(d, self.sidereal, position)?;
@@ -175,7 +174,6 @@ impl Astrometry {
 
     // The Sun from a position, by an edition of its series.
     fn sun_shot(&self, edition: i64, position: Position) -> Result<ShotAngles, Refusal>
-        requires { PositionSized position }
         ensures { (shot_values result ≡ sun_shot edition self.now.epochs position) × ShotReduced (shot_values result) }
     {
         let e = self.epochs.ephemeris;
@@ -187,7 +185,6 @@ impl Astrometry {
 
     // Polaris from a position.
     fn polaris_shot(&self, position: Position) -> Result<ShotAngles, Refusal>
-        requires { PositionSized position }
         ensures { (shot_values result ≡ polaris_shot self.now.epochs position) × ShotReduced (shot_values result) }
     {
         let e = self.epochs.ephemeris;

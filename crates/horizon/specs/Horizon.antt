@@ -11,7 +11,7 @@ use Rattle.exact.specs.Nth.{nth}
 use Rattle.sine_table.specs.Table.{R}
 use Rattle.vector_angle.specs.VectorAngle.{angle}
 use Rattle.rotation.specs.Rotation.{rotated, sin_of, cos_of, rotation3}
-use Rattle.site.specs.declared.Position.{Position}
+use Rattle.site.specs.Site.{Position}
 use Rattle.horizon.specs.declared.SightAngles.{SightAngles}
 
 -- ---- the view

@@ -5,7 +5,6 @@ ghost use Rattle.std.specs.Prelude.{◌≡◌, ◌+◌, ◌*◌, ◌≤◌, ◌<
 ghost use Rattle.exact.specs.Reduction.{turn};
 ghost use Rattle.rotation.specs.Length.{squared_length, growth};
 ghost use Rattle.rotation.specs.Sizes.{reach, component_most};
-ghost use Rattle.site.specs.Sizes.{PositionSized};
 ghost use Rattle.horizon.specs.Horizon.{to_meridian, to_horizon, view, view_from, sight_of, sight_values, horizontal_square};
 ghost use Rattle.horizon.specs.Sizes.{SightReduced, square_most};
 
@@ -90,7 +89,7 @@ impl View {
 // What an observer at a position sees of a body in direction d, at a sidereal time of Greenwich.
 #[tactic(auto, unfolding(crate::specs::Horizon::view_from))]
 pub fn sight(d: Direction, sidereal: u64, position: Position) -> Result<SightAngles, Refusal>
-    requires { (squared_length d + 2 * growth ≤ reach) × (sidereal < turn) × PositionSized position }
+    requires { (squared_length d + 2 * growth ≤ reach) × (sidereal < turn) }
     ensures { (sight_values result ≡ sight_of (view_from (pos sidereal) position d)) × IfOk result SightReduced }
 {
     let m = to_meridian(d, sidereal, position.longitude);

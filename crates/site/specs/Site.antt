@@ -6,7 +6,6 @@ use Rattle.refusal.specs.Tests.{Test, test, decided}
 use Rattle.refusal.specs.declared.Refusal.{Refusal}
 use Rattle.exact.specs.Range.{between}
 use Rattle.site.specs.declared.Site.{Site}
-use Rattle.site.specs.declared.Position.{Position}
 
 -- field 8, in 0.1″: to 89° north or south
 abbrev pub is_latitude : ℤ → Bool
@@ -23,8 +22,16 @@ is_site site = is_latitude site.latitude && is_longitude site.longitude
 abbrev pub in_units : ℤ → ℤ
 in_units field = field *ℤ pos 1_000
 
+-- the same two in units of 0.0001″, as the horizon takes them
+pub record Position : Type 0 where
+  pub latitude : ℤ
+  pub longitude : ℤ
+
+abbrev pub position_at : ℤ → ℤ → Position
+position_at latitude longitude = record { latitude = latitude; longitude = longitude }
+
 abbrev pub position : Site → Position
-position site = record { latitude = in_units site.latitude; longitude = in_units site.longitude }
+position site = position_at (in_units site.latitude) (in_units site.longitude)
 
 -- what two numbers are answered with: 0 with φ and the longitude in units, or the refusal's number with zeros
 pub record LocatedValues : Type 0 where

@@ -16,7 +16,7 @@ use Rattle.calendar.specs.declared.Epochs.{Epochs}
 use Rattle.sun.specs.Editions.{is_edition}
 use Rattle.site.specs.Site as Site
 use Rattle.site.specs.Site.{position_of}
-use Rattle.site.specs.declared.Position.{Position}
+use Rattle.site.specs.Site.{Position}
 use Rattle.fieldbook.specs.Shot.{refused, is_body, body_view, shot}
 use Rattle.fieldbook.specs.Parts.{sun_shot, polaris_shot, shot_of, shot_from}
 use Rattle.fieldbook.specs.Bodies.{body_number}
@@ -84,7 +84,7 @@ returns-in_err-position c =
     let q = c.args.query in
     let es = c.in_ok-epochs.epochs in
     let p = err_from_is_err_and c.from_residual-in_err-position.result c.from_residual-in_err-position.ensures.1 in
-    let e = refused-site es q.numbers.site q.numbers.body q.options _ c.in_err-position.ensures.0 in
+    let e = refused-site es q.numbers.site q.numbers.body q.options _ c.in_err-position.ensures in
     rw (p.1, p.2) (e ∙ accepted-instant q es c.in_ok-epochs.ensures, refused-reduced 0)
 
 pub returns-in_err-body : goal.returns-in_err-body
@@ -93,7 +93,7 @@ returns-in_err-body c =
     let body-fits : SFits w64 q.numbers.body = record { sfits = omega arith } in
     let p = err_from_is_err_and c.from_residual-in_err-body.result c.from_residual-in_err-body.ensures.1 in
     let b = simp (to_z-of_z, body-fits) at c.in_err-body.ensures in
-    rw (p.1, p.2, b.0) (no-body q _ _ c.in_ok-epochs.ensures c.in_ok-position.ensures.0 b.1, refused-reduced 6)
+    rw (p.1, p.2, b.0) (no-body q _ _ c.in_ok-epochs.ensures c.in_ok-position.ensures b.1, refused-reduced 6)
 
 pub returns-then-not-between : goal.returns-then-not-between
 returns-then-not-between c =
@@ -102,7 +102,7 @@ returns-then-not-between c =
     let edition-fits : SFits w64 q.options.edition = record { sfits = omega arith } in
     let b = simp (to_z-of_z, body-fits) at c.in_ok-body.ensures in
     let o = simp (to_z-of_z, edition-fits) at c.if-not-between.ensures in
-    (no-edition q _ _ c.in_ok-epochs.ensures c.in_ok-position.ensures.0 (by-number c.in_ok-body.body q.numbers.body b) (sym o), refused-reduced 19)
+    (no-edition q _ _ c.in_ok-epochs.ensures c.in_ok-position.ensures (by-number c.in_ok-body.body q.numbers.body b) (sym o), refused-reduced 19)
 
 pub returns-in-Sun : goal.returns-in-Sun
 returns-in-Sun c =
@@ -113,7 +113,7 @@ returns-in-Sun c =
     let b = simp (c.in-Sun.is, to_z-of_z, body-fits) at c.in_ok-body.ensures in
     let o = simp (to_z-of_z, edition-fits) at c.if-not-between.ensures in
     let s = simp (to_z-of_z, edition-fits) at c.sun_shot.ensures.0 in
-    (s ∙ ap (λ (es : Epochs). sun_shot q.options.edition es p) c.of-astrometry.ensures ∙ sun q _ p c.in_ok-epochs.ensures c.in_ok-position.ensures.0 b (sym o), c.sun_shot.ensures.1)
+    (s ∙ ap (λ (es : Epochs). sun_shot q.options.edition es p) c.of-astrometry.ensures ∙ sun q _ p c.in_ok-epochs.ensures c.in_ok-position.ensures b (sym o), c.sun_shot.ensures.1)
 
 pub returns-in-Polaris : goal.returns-in-Polaris
 returns-in-Polaris c =
@@ -123,4 +123,4 @@ returns-in-Polaris c =
     let edition-fits : SFits w64 q.options.edition = record { sfits = omega arith } in
     let b = simp (c.in-Polaris.is, to_z-of_z, body-fits) at c.in_ok-body.ensures in
     let o = simp (to_z-of_z, edition-fits) at c.if-not-between.ensures in
-    (c.polaris_shot.ensures.0 ∙ ap (λ (es : Epochs). polaris_shot es p) c.of-astrometry.ensures ∙ polaris q _ p c.in_ok-epochs.ensures c.in_ok-position.ensures.0 b (sym o), c.polaris_shot.ensures.1)
+    (c.polaris_shot.ensures.0 ∙ ap (λ (es : Epochs). polaris_shot es p) c.of-astrometry.ensures ∙ polaris q _ p c.in_ok-epochs.ensures c.in_ok-position.ensures b (sym o), c.polaris_shot.ensures.1)

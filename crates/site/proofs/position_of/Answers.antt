@@ -1,5 +1,5 @@
 -- A thousand times a field that passed its test fits.
-use mathlib.Core.Path.{◌≡◌, refl, sym, ◌∙◌}
+use mathlib.Core.Path.{◌≡◌, sym, ◌∙◌}
 use mathlib.Core.Bool.{true}
 use Prim.Native.Nat.{ℕ, ◌≤◌, ◌<◌, ◌^◌}
 use native.Mathlib.Omega.{arith}
@@ -35,7 +35,7 @@ both_small site e =
 
 pub returns-then-not-is_site : goal.returns-then-not-is_site
 unfolding position_of
-returns-then-not-is_site c = (simp (sym c.is_site.ensures ∙ c.if-not-is_site.true), tt)
+returns-then-not-is_site c = simp (sym c.is_site.ensures ∙ c.if-not-is_site.true)
 
 pub overflow_mul-result : goal.overflow_mul-result
 overflow_mul-result c =
@@ -47,6 +47,13 @@ overflow_mul-result-2 c =
     let f : SFits w64 c.args.site.longitude = record { sfits = omega arith } in
     simp (to_z-of_z, f) (both_small c.args.site (sym c.is_site.ensures ∙ c.if-not-is_site.false)).1.0
 
+pub invariant_of-result : goal.invariant_of-result
+invariant_of-result c =
+    let f : SFits w64 c.args.site.latitude = record { sfits = omega arith } in
+    let g : SFits w64 c.args.site.longitude = record { sfits = omega arith } in
+    let s = both_small c.args.site (sym c.is_site.ensures ∙ c.if-not-is_site.false) in
+    simp (to_z-of_z, f, g, s.0.0, s.1.0) (record { latitude = s.0.1; longitude = s.1.1 })
+
 pub returns : goal.returns
 unfolding position_of
 returns c =
@@ -54,4 +61,4 @@ returns c =
     let g : SFits w64 c.args.site.longitude = record { sfits = omega arith } in
     let e = sym c.is_site.ensures ∙ c.if-not-is_site.false in
     let s = both_small c.args.site e in
-    simp (to_z-of_z, f, g, s.0.0, s.1.0, e) (refl, record { latitude = s.0.1; longitude = s.1.1 })
+    simp (to_z-of_z, f, g, s.0.0, s.1.0, e)

@@ -8,7 +8,7 @@ use Rattle.fieldbook.proofs.Decided.{refused-reduced, refused-sight, answered-si
 use Rattle.fieldbook.proofs.Astrometry.sighted_shot.Goals as goal
 
 pub sight-requires : goal.sight-requires
-sight-requires c = (c.requires.0, c.args.self.now.known.sidereal-size, c.requires.2)
+sight-requires c = (c.requires.0, c.args.self.now.known.sidereal-size)
 
 pub returns-in_err-sight : goal.returns-in_err-sight
 returns-in_err-sight c =
