@@ -7,7 +7,7 @@ use Prim.Native.Nat.{ℕ, zero, suc, ◌+◌, ◌*◌, ◌/◌, ◌%◌, ◌^◌
 use native.Mathlib.Omega.{arith}
 use native.Mathlib.Nat.{pow-suc}
 use lib.Dec.{ltb}
-use lib.ListN.{length, drop, set, length-append}
+use lib.ListN.{length, drop, set, length-append, length-set}
 use borrow.Author.Tests.{lt-ltb, le-ltb, ltb-true, ltb-false}
 use Rattle.digits.specs.Text.{decimal_in, decimal, spaced, digits}
 use Rattle.digits.proofs.Lists.{put_two}
@@ -75,10 +75,6 @@ length-one n h = ap length (digits-one n h)
 pub length_more : (n : ℕ) → 10 ≤ n → length (digits n) ≡ length (digits (n / 10)) + 2
 length_more n h = ap length (digits_more n h) ∙ length-append (digits (n / 10)) (32 ∷ (48 + n % 10) ∷ [])
 
--- where all the digits have room, the last one and its space have room behind the others
-pub room-for-last : (n k m : ℕ) → 10 ≤ n → length (digits n) ≤ m → k ≡ length (digits (n / 10)) → k + 2 ≤ m
-room-for-last n k m h r e = let l = length_more n h in omega arith
-
 -- l with the quotient's digits at its front becomes l with n's, by a space and the last digit
 pub put_last : (n k : ℕ) (l x : List ℕ) → 10 ≤ n → length (digits n) ≤ length l → k ≡ length (digits (n / 10))
     → x ≡ digits (n / 10) ++ drop (length (digits (n / 10))) l
@@ -109,3 +105,6 @@ length_digits k n h = let i = length-decimal k n h in let e = length-spaced (dec
 -- so the digits of a number of 64 bits take at most 39
 pub length-digits-64 : (n : ℕ) → n < 2 ^ 64 → length (digits n) ≤ 39
 length-digits-64 n h = length_digits 19 n (omega arith)
+
+-- how long digits are
+pub ruleset lengths = (length-one, length_more, length-digits-64, length-set)

@@ -13,6 +13,7 @@ pub fn last_digit(n: u64) -> u8
 }
 
 // How many bytes the digits of n take.
+#[tactic(auto, using(crate::proofs::Decimal::lengths))]
 fn digits_len(n: u64) -> usize
     ensures { result ≡ length (digits n) }
 {
@@ -20,6 +21,7 @@ fn digits_len(n: u64) -> usize
 }
 
 // Writes the digits of n at the buffer's start, the quotient's before the last digit, and returns how many bytes they take.
+#[tactic(auto, using(crate::proofs::Decimal::lengths))]
 fn write_digits(buf: &mut [u8], n: u64) -> usize
     requires { length (digits n) ≤ length buf.old }
     ensures value { result ≡ length (digits n) }
@@ -36,6 +38,7 @@ fn write_digits(buf: &mut [u8], n: u64) -> usize
 }
 
 // How many bytes the text of n takes.
+#[tactic(auto, using(crate::proofs::Decimal::lengths))]
 fn text_len(n: i64) -> usize
     ensures { result ≡ length (text n) }
 {
