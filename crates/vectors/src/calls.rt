@@ -1,104 +1,92 @@
-// The calls on the card, as the outside vectors write them. Each returns the card after it, and its answer ends with that card.
-ghost use Rattle.std.specs.Prelude.{◌≡◌};
-ghost use Rattle.sine_table.specs.Table.{entries};
-
+// The calls on the card, as the outside vectors write them. The answer to each ends with the card after it.
 use crate::{output, words};
-use card::{Card, CardAnswer};
-use sine_table::SineTable;
+use card::Card;
+use refusal::Refusal;
 use std::io::Stdout;
 
 // The longest buffer that a reading is given.
 const LONGEST: usize = 64;
 
-pub fn fresh(out: Stdout) -> Card {
-    shown(out, card::fresh())
+pub fn fresh(out: Stdout, card: &mut Card) {
+    *card = Card::fresh();
+    output::card(out, card);
 }
 
-// The start before request 4.
-pub fn old(out: Stdout) -> Card {
-    shown(out, card::fresh_with_dut1_assumed_zero())
+// The start on which DUT1 is assumed to be 0.
+pub fn old(out: Stdout, card: &mut Card) {
+    *card = Card::fresh_with_dut1_assumed_zero();
+    output::card(out, card);
 }
 
-pub fn hear(out: Stdout, card: Card, field: i64, number: i64) -> Card {
-    answered(out, card::hear(card, field, number))
+pub fn hear(out: Stdout, card: &mut Card, field: i64, number: i64) {
+    answered(out, card.hear(field, number), card);
 }
 
-pub fn confirm(out: Stdout, card: Card, field: i64) -> Card {
-    answered(out, card::confirm(card, field))
+pub fn confirm(out: Stdout, card: &mut Card, field: i64) {
+    answered(out, card.confirm(field), card);
 }
 
-pub fn undo(out: Stdout, card: Card) -> Card {
-    answered(out, card::undo(card))
+pub fn undo(out: Stdout, card: &mut Card) {
+    answered(out, card.undo(), card);
 }
 
 // The shot from the card, with the default options.
-pub fn shot(out: Stdout, t: &SineTable, card: Card) -> Card
-    requires { t.now ≡ entries }
-{
-    let answer = fieldbook::shot_from_card_with(t, card, fieldbook::DEFAULTS);
-    let outcome = answer.outcome;
-    output::shot(out, outcome);
-    ended(out, answer.card)
+pub fn shot(out: Stdout, card: &Card) {
+    output::shot(out, fieldbook::shot_from_card(card, fieldbook::DEFAULTS));
+    ended(out, card);
 }
 
 // The pointing from the card, with a horizontal angle and the default options.
-pub fn pointing(out: Stdout, t: &SineTable, card: Card, angle: i64) -> Card
-    requires { t.now ≡ entries }
-{
-    let answer = pointing::pointing_from_card_with(t, card, fieldbook::DEFAULTS, angle);
-    let mark = answer.mark;
-    output::mark(out, mark);
-    ended(out, answer.card)
+pub fn pointing(out: Stdout, card: &Card, angle: i64) {
+    output::mark(
+        out,
+        pointing::pointing_from_card(card, fieldbook::DEFAULTS, angle),
+    );
+    ended(out, card);
 }
 
 // A field, a place and a buffer.
-pub fn read(out: Stdout, card: Card, words: &[u8]) -> Card {
-    let end = words::second_end(words);
-    let row = lines::numbers_of(&words[0..end], crate::DIGITS);
-    let numbers = row.numbers;
-    let buffer = words::rest(&words[end..]);
-    if row.count != 2 || numbers[1] < 0 || !is_buffer(buffer) {
-        output::malformed(out);
-        return card;
+pub fn read(out: Stdout, card: &mut Card, words: &[u8]) {
+    let behind_field = words::rest(words);
+    let place = words::first(behind_field);
+    let numbers = lines::numbers_of(words::first(words), crate::DIGITS);
+    let places = lines::numbers_of(place, crate::DIGITS);
+    let buffer = words::rest(behind_field);
+    match (numbers.as_slice(), places.as_slice()) {
+        ([field], [place]) if 0 <= *place && is_buffer(buffer) => {
+            read_hex(out, card, *field, buffer, exact::magnitude(*place) as usize)
+        }
+        _ => output::malformed(out),
     }
-    let place = exact::magnitude(numbers[1]) as usize;
-    read_hex(out, card, numbers[0], buffer, place)
 }
 
 // Whether a word is a buffer: `-` is the empty one, else it is pairs of hexadecimal digits, and not too many.
 fn is_buffer(word: &[u8]) -> bool {
-    if word.len() == 0 || 2 * LONGEST < word.len() {
-        return false;
+    match word {
+        b"" => false,
+        b"-" => true,
+        _ => word.len() <= 2 * LONGEST && word.len() % 2 == 0,
     }
-    word.len() % 2 == 0 || check::same(word, b"-")
 }
 
-fn read_hex(out: Stdout, card: Card, field: i64, hex: &[u8], place: usize) -> Card {
+fn read_hex(out: Stdout, card: &mut Card, field: i64, hex: &[u8], place: usize) {
     let mut space = [0u8; LONGEST];
     let n = words::unhex(hex, &mut space);
-    read_into(out, card, field, &mut space[..n], place)
+    read_into(out, card, field, &mut space[..n], place);
 }
 
-fn read_into(out: Stdout, card: Card, field: i64, buffer: &mut [u8], place: usize) -> Card {
-    let answer = card::read(card, field, buffer, place);
-    let reading = answer.reading;
-    output::reading(out, reading);
+fn read_into(out: Stdout, card: &mut Card, field: i64, buffer: &mut [u8], place: usize) {
+    output::reading(out, card.read(field, buffer, place));
     output::hex(out, buffer);
-    ended(out, answer.card)
+    ended(out, card);
 }
 
-fn answered(out: Stdout, answer: CardAnswer) -> Card {
-    let verdict = answer.verdict;
+fn answered(out: Stdout, verdict: Result<(), Refusal>, card: &Card) {
     output::verdict(out, verdict);
-    ended(out, answer.card)
+    ended(out, card);
 }
 
-fn ended(out: Stdout, card: Card) -> Card {
+fn ended(out: Stdout, card: &Card) {
     output::space(out);
-    shown(out, card)
-}
-
-fn shown(out: Stdout, card: Card) -> Card {
     output::card(out, card);
-    card
 }

@@ -2,10 +2,8 @@
 // to 10 every step of a shot. Angles are in units of 0.0001″.
 ghost use Rattle.std.specs.Prelude.{◌≡◌, ◌+◌, ◌*◌, ◌≤◌, ◌<◌, ◌^◌, nat_abs, length};
 ghost use Rattle.exact.specs.Reduction.{turn};
-ghost use Rattle.sine_table.specs.Table.{entries};
 ghost use Rattle.rotation.specs.Length.{squared_length, growth};
 ghost use Rattle.rotation.specs.Sizes.{reach};
-ghost use Rattle.epoch.specs.Sizes.{InSpan};
 ghost use Rattle.arguments.specs.PrintedArguments.{arguments_of};
 ghost use Rattle.frame.specs.FrameContract.{IsFrame};
 ghost use Rattle.polaris.specs.Sizes.{ElementsSized};
@@ -15,14 +13,13 @@ ghost use Rattle.vectors.specs.Sizes.{QuantitiesSized};
 
 use crate::words::Word;
 use crate::{angles, output};
-use calendar::{Epochs, Instant};
+use calendar::Epochs;
 use epoch::Epoch;
 use fieldbook::{Numbers, Options};
 use frame::Frame;
 use polaris::Elements;
 use refusal::Refusal;
 use rotation::Direction;
-use sine_table::SineTable;
 use site::{Position, Site};
 use std::io::Stdout;
 
@@ -47,98 +44,80 @@ pub fn date(out: Stdout, year: i64, month: i64, day: i64) {
 }
 
 // The shot with plain numbers.
-pub fn shot(out: Stdout, t: &SineTable, fields: &[i64], edition: i64)
-    requires { (t.now ≡ entries) × (field_count ≤ length fields.now) }
+pub fn shot(out: Stdout, fields: &[i64], edition: i64)
+    requires { field_count ≤ length fields.now }
 {
-    let query = fieldbook::query_with(fields, Options { edition: edition });
-    output::shot(out, fieldbook::shot_with(t, query));
+    let query = fieldbook::query_with(fields, Options { edition });
+    output::shot(out, fieldbook::shot(query));
 }
 
 // The fields of an instant alone, whose line has the numbers of fields 1 to 7 and 11: no site, and no body.
-pub fn fields_of(n: [i64; lines::ROW]) -> [i64; card::FIELDS] {
+pub fn fields_of(n: &[i64]) -> [i64; card::FIELDS]
+    requires { 8 ≤ length n.now }
+{
     [n[0], n[1], n[2], n[3], n[4], n[5], n[6], 0, 0, 0, n[7]]
 }
 
 // Answers what is asked with the numbers of the fields.
-pub fn at(out: Stdout, t: &SineTable, asked: Word, fields: &[i64], edition: i64)
-    requires { (t.now ≡ entries) × (field_count ≤ length fields.now) }
+pub fn at(out: Stdout, asked: Word, fields: &[i64], edition: i64)
+    requires { field_count ≤ length fields.now }
 {
     let numbers = fieldbook::numbers_of(fields);
     match calendar::instant_of(numbers.time) {
-        Instant::Accepted(epochs) => answer_at(out, t, asked, epochs, numbers, edition),
-        Instant::Refused(refusal) => output::refused(out, refusal),
+        Ok(epochs) => answer_at(out, asked, epochs, numbers, edition),
+        Err(refusal) => output::refused(out, refusal),
     }
 }
 
-fn quantities_of(t: &SineTable, epochs: Epochs, edition: i64) -> Quantities
-    requires { (t.now ≡ entries) × (InSpan epochs.universal × InSpan epochs.ephemeris) }
+fn quantities_of(epochs: Epochs, edition: i64) -> Quantities
     ensures { QuantitiesSized result }
 {
     let e = epochs.ephemeris;
     let arguments = arguments::arguments_of(e);
-    let f = frame::frame_of(t, &arguments, e);
+    let f = frame::frame_of(&arguments, e);
     Quantities {
-        epochs: epochs,
+        epochs,
         frame: f,
-        sidereal: frame::sidereal_time(t, epochs.universal, f.dpsi, f.epsilon),
-        centre: sun::centre_longitude(t, &arguments, e),
-        longitude: longitude_of(t, edition, &arguments, e, f),
+        sidereal: frame::sidereal_time(epochs.universal, f),
+        centre: sun::centre_longitude(&arguments, e),
+        longitude: longitude_of(edition, &arguments, e, f),
     }
 }
 
-fn longitude_of(
-    t: &SineTable,
-    edition: i64,
-    arguments: &[i64; arguments::COUNT],
-    e: Epoch,
-    f: Frame,
-) -> u64
-    requires { (t.now ≡ entries) × (arguments.now ≡ arguments_of e) × InSpan e × IsFrame arguments.now e.q f }
+fn longitude_of(edition: i64, arguments: &[i64; arguments::COUNT], e: Epoch, f: Frame) -> u64
+    requires { (arguments.now ≡ arguments_of e) × IsFrame arguments.now e.q f }
     ensures { result < turn }
 {
-    sun::apparent_longitude(t, edition, arguments, e, f.dpsi, sun::ABERRATION)
+    sun::apparent_longitude(edition, arguments, e, f.dpsi, sun::ABERRATION)
 }
 
-fn answer_at(
-    out: Stdout,
-    t: &SineTable,
-    asked: Word,
-    epochs: Epochs,
-    numbers: Numbers,
-    edition: i64,
-)
-    requires { (t.now ≡ entries) × (InSpan epochs.universal × InSpan epochs.ephemeris) }
-{
+fn answer_at(out: Stdout, asked: Word, epochs: Epochs, numbers: Numbers, edition: i64) {
     match asked {
         Word::Instant => {
             output::accepted(out);
             write_time(out, epochs);
         }
-        Word::Longitude => write_longitude(out, t, epochs, edition),
+        Word::Longitude => write_longitude(out, epochs, edition),
         Word::Sun => {
             output::accepted(out);
-            write_sun(out, t, quantities_of(t, epochs, edition));
+            write_sun(out, &quantities_of(epochs, edition));
         }
-        _ => parts(out, t, epochs, numbers.site, numbers.body, edition),
+        _ => parts(out, epochs, numbers.site, numbers.body, edition),
     }
 }
 
 // s, where the edition is one.
-fn write_longitude(out: Stdout, t: &SineTable, epochs: Epochs, edition: i64)
-    requires { (t.now ≡ entries) × (InSpan epochs.universal × InSpan epochs.ephemeris) }
-{
+fn write_longitude(out: Stdout, epochs: Epochs, edition: i64) {
     if !exact::between(1, edition, 2) {
         return output::refused(out, Refusal::NoEdition);
     }
-    let quantities = quantities_of(t, epochs, edition);
+    let quantities = quantities_of(epochs, edition);
     output::accepted(out);
     output::natural(out, quantities.longitude);
 }
 
 // N and its q, then N with ΔT, its q and the arguments, those of the full edition last.
-fn write_time(out: Stdout, epochs: Epochs)
-    requires { InSpan epochs.ephemeris }
-{
+fn write_time(out: Stdout, epochs: Epochs) {
     let u = epochs.universal;
     let e = epochs.ephemeris;
     output::integers(out, &[u.n, u.q, e.n, e.q]);
@@ -147,14 +126,14 @@ fn write_time(out: Stdout, epochs: Epochs)
 }
 
 // What almanacs print of the Sun: s, Δψ, Δε, the true obliquity, sidereal time, right ascension and declination.
-fn write_sun(out: Stdout, t: &SineTable, quantities: Quantities)
-    requires { (t.now ≡ entries) × QuantitiesSized quantities }
+fn write_sun(out: Stdout, quantities: &Quantities)
+    requires { QuantitiesSized quantities.now }
 {
     let f = quantities.frame;
     output::natural(out, quantities.longitude);
     output::integers(out, &[f.dpsi, difference(f.epsilon, f.epsilon0), f.epsilon]);
     output::natural(out, quantities.sidereal);
-    write_equatorial(out, t, sun::direction(t, quantities.longitude, f.epsilon));
+    write_equatorial(out, sun::direction(quantities.longitude, f.epsilon));
 }
 
 fn difference(a: i64, b: i64) -> i64
@@ -164,14 +143,14 @@ fn difference(a: i64, b: i64) -> i64
 }
 
 // Right ascension and declination of a direction.
-fn write_equatorial(out: Stdout, t: &SineTable, d: Direction)
-    requires { (t.now ≡ entries) × (squared_length d ≤ reach) }
+fn write_equatorial(out: Stdout, d: Direction)
+    requires { squared_length d ≤ reach }
 {
     let m = exact::magnitude(d[0]);
     let n = exact::magnitude(d[1]);
     let h = exact::root(m * m + n * n) as i64;
-    output::natural(out, vector_angle::angle(t, d[0], d[1]));
-    write_short_way(out, vector_angle::angle(t, h, d[2]));
+    output::natural(out, vector_angle::angle(d[0], d[1]));
+    write_short_way(out, vector_angle::angle(h, d[2]));
 }
 
 // A reduced angle, less a turn where that is nearer to 0: a declination is negative south of the equator.
@@ -186,82 +165,75 @@ fn write_short_way(out: Stdout, a: u64)
 }
 
 // Every step of a shot, in the order of tools/vectors.py.
-fn parts(out: Stdout, t: &SineTable, epochs: Epochs, site: Site, body: i64, edition: i64)
-    requires { (t.now ≡ entries) × (InSpan epochs.universal × InSpan epochs.ephemeris) }
-{
-    let located = angles::located(site);
-    if !located.known {
-        return output::refused(out, Refusal::NoPosition);
-    }
+fn parts(out: Stdout, epochs: Epochs, site: Site, body: i64, edition: i64) {
+    let position = match site::position_of(site) {
+        Ok(position) => position,
+        Err(refusal) => return output::refused(out, refusal),
+    };
     if !exact::between(1, body, 2) {
         return output::refused(out, Refusal::NoBody);
     }
     if !exact::between(1, edition, 2) {
         return output::refused(out, Refusal::NoEdition);
     }
-    let quantities = quantities_of(t, epochs, edition);
-    parts_from(out, t, quantities, located.position, body == 1);
+    let quantities = quantities_of(epochs, edition);
+    parts_from(out, &quantities, position, body == 1);
 }
 
-fn parts_from(out: Stdout, t: &SineTable, quantities: Quantities, position: Position, is_sun: bool)
-    requires { (t.now ≡ entries) × QuantitiesSized quantities × PositionSized position }
+fn parts_from(out: Stdout, quantities: &Quantities, position: Position, is_sun: bool)
+    requires { QuantitiesSized quantities.now × PositionSized position }
 {
-    let d = direction_of(t, quantities, is_sun);
-    let sighting = horizon::sight(t, d, quantities.sidereal, position);
-    output::sight_begin(out, sighting);
-    write_time(out, quantities.epochs);
+    let d = direction_of(quantities, is_sun);
+    let sight = horizon::sight(d, quantities.sidereal, position);
+    output::sight_begin(out, sight);
+    let epochs = quantities.epochs;
+    write_time(out, epochs);
     write_frame(out, quantities);
     if is_sun {
         output::natural(out, quantities.longitude);
     } else {
-        write_polaris(out, t, quantities);
+        write_polaris(out, quantities);
     }
-    angles::write_view(out, t, d, quantities.sidereal, position);
-    output::sight_end(out, sighting);
+    angles::write_view(out, d, quantities.sidereal, position);
+    output::sight_end(out, sight);
 }
 
 // Δψ, the mean obliquity, ε, sidereal time and g.
-fn write_frame(out: Stdout, quantities: Quantities) {
+fn write_frame(out: Stdout, quantities: &Quantities) {
     let f = quantities.frame;
     output::integers(out, &[f.dpsi, f.epsilon0, f.epsilon]);
     output::natural(out, quantities.sidereal);
     output::natural(out, quantities.centre);
 }
 
-fn direction_of(t: &SineTable, quantities: Quantities, is_sun: bool) -> Direction
-    requires { (t.now ≡ entries) × QuantitiesSized quantities }
+fn direction_of(quantities: &Quantities, is_sun: bool) -> Direction
+    requires { QuantitiesSized quantities.now }
     ensures { squared_length result + 2 * growth ≤ reach }
 {
     let f = quantities.frame;
     if is_sun {
-        sun::direction(t, quantities.longitude, f.epsilon)
+        sun::direction(quantities.longitude, f.epsilon)
     } else {
-        polaris::direction(
-            t,
-            quantities.epochs.ephemeris,
-            f.epsilon0,
-            f.dpsi,
-            f.epsilon,
-            quantities.centre,
-        )
+        let e = quantities.epochs.ephemeris;
+        polaris::direction(e, f, quantities.centre)
     }
 }
 
 // Of Polaris p, right ascension, declination, ζ, z, θ, the catalogue's direction and that before aberration.
-fn write_polaris(out: Stdout, t: &SineTable, quantities: Quantities)
-    requires { (t.now ≡ entries) × QuantitiesSized quantities }
+fn write_polaris(out: Stdout, quantities: &Quantities)
+    requires { QuantitiesSized quantities.now }
 {
-    let p = polaris::tropical_millionths(quantities.epochs.ephemeris);
+    let e = quantities.epochs.ephemeris;
+    let p = polaris::tropical_millionths(e);
     let k = polaris::elements_of(p);
     output::integers(out, &[p, k.alpha, k.delta, k.zeta, k.z, k.theta]);
-    output::integers(out, &polaris::catalogue(t, k.alpha, k.delta));
-    write_before_aberration(out, t, quantities, k);
+    output::integers(out, &polaris::catalogue(k.alpha, k.delta));
+    write_before_aberration(out, quantities, k);
 }
 
-fn write_before_aberration(out: Stdout, t: &SineTable, quantities: Quantities, k: Elements)
-    requires { (t.now ≡ entries) × QuantitiesSized quantities × ElementsSized k }
+fn write_before_aberration(out: Stdout, quantities: &Quantities, k: Elements)
+    requires { QuantitiesSized quantities.now × ElementsSized k }
 {
-    let f = quantities.frame;
-    let d = polaris::true_direction(t, k, f.epsilon0, f.dpsi, f.epsilon);
+    let d = polaris::true_direction(k, quantities.frame);
     output::integers(out, &d);
 }

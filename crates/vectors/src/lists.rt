@@ -1,21 +1,11 @@
 // The list of smaller spread, as the outside vectors write the two: each behind its length.
 ghost use Rattle.std.specs.Prelude.{◌≤◌, length};
-ghost use Rattle.lines.specs.Numerals.{row_length};
 
 use crate::output;
-use lines::Row;
 use std::io::Stdout;
 
 // The refusal's number, and the results that are handed back.
-pub fn choice(out: Stdout, row: Row)
-    requires { row.count ≤ row_length }
-{
-    let numbers = row.numbers;
-    let count = row.count;
-    choice_of(out, &numbers[..count]);
-}
-
-fn choice_of(out: Stdout, numbers: &[i64]) {
+pub fn choice(out: Stdout, numbers: &[i64]) {
     let n = first_length(numbers);
     if numbers.len() < n + 2 {
         return output::malformed(out);
@@ -33,11 +23,10 @@ fn choice_of(out: Stdout, numbers: &[i64]) {
 fn first_length(numbers: &[i64]) -> usize
     ensures { result ≤ length numbers.now }
 {
-    if numbers.len() == 0 || numbers[0] < 0 {
-        return numbers.len();
+    match numbers {
+        [n, ..] if 0 <= *n => numbers.len().min(exact::magnitude(*n) as usize),
+        _ => numbers.len(),
     }
-    let n = exact::magnitude(numbers[0]) as usize;
-    if n < numbers.len() { n } else { numbers.len() }
 }
 
 fn write_chosen<'a>(out: Stdout, first: &'a [i64], second: &'a [i64]) {

@@ -10,11 +10,10 @@ mod lists;
 mod output;
 mod words;
 
-ghost use Rattle.std.specs.Prelude.{◌≡◌, ◌≤◌, length};
-ghost use Rattle.sine_table.specs.Table.{entries};
+ghost use Rattle.std.specs.Prelude.{◌≤◌, length};
 
 use card::Card;
-use sine_table::SineTable;
+use site::Site;
 use std::io::{Read, Stdin, Stdout};
 use words::Word;
 
@@ -24,26 +23,24 @@ const ROOM: usize = 262_144;
 // The most digits of a number.
 const DIGITS: usize = 18;
 
-// The sine's table is named once, for the run. Input that fills the buffer may not have come whole, and is answered one line 14 more, so that none is
-// lost unseen.
+// Input that fills the buffer may not have come whole, and is answered one line 14 more, so that none is lost unseen.
 fn main(rt: HostRuntime) {
-    let t = sine_table::table();
     let out = rt.stdout();
     let mut input = [0u8; ROOM];
     let n = read_full(rt.stdin(), &mut input);
-    answer_all(out, &t, &input[..n]);
+    answer_all(out, &input[..n]);
     if n == ROOM {
         output::malformed(out);
     }
 }
 
 // Reads until the buffer is full; how many bytes came, fewer where the input ends before or cannot be read.
-fn read_full(from: Stdin, buffer: &mut [u8]) -> usize
+fn read_full(mut from: Stdin, buffer: &mut [u8]) -> usize
     ensures { result ≤ length buffer.new }
 {
     let mut n = 0;
     while n < buffer.len() {
-        let came = read_some(from, &mut buffer[n..]);
+        let came = from.read(&mut buffer[n..]).unwrap_or(0);
         if came == 0 {
             break;
         }
@@ -52,80 +49,66 @@ fn read_full(from: Stdin, buffer: &mut [u8]) -> usize
     n
 }
 
-// Reads once. Nothing comes where the input has ended or cannot be read.
-fn read_some(from: Stdin, buffer: &mut [u8]) -> usize
-    ensures { result ≤ length buffer.new }
-{
-    let mut from = from;
-    match from.read(buffer) {
-        Ok(n) => n,
-        Err(_) => 0,
-    }
-}
-
 // Answers each line; the first finds a fresh card.
-fn answer_all(out: Stdout, t: &SineTable, input: &[u8])
-    requires { t.now ≡ entries }
-{
-    let mut card = card::fresh();
-    let mut from = 0;
-    while from < input.len() {
-        let end = lines::find(input, from, input.len(), b'\n');
-        card = answer(out, t, card, &input[from..end]);
+fn answer_all(out: Stdout, input: &[u8]) {
+    let mut card = Card::fresh();
+    let mut rest = input;
+    while !rest.is_empty() {
+        let (line, behind) = rest.split_at(lines::find(rest, b'\n'));
+        answer(out, &mut card, line);
         output::newline(out);
-        from = end + 1;
+        let Some((_newline, next)) = behind.split_first() else {
+            break;
+        };
+        rest = next;
     }
 }
 
-// Answers a line, given without its newline, and returns the card after it: the calls on the card are here.
-fn answer(out: Stdout, t: &SineTable, card: Card, line: &[u8]) -> Card
-    requires { t.now ≡ entries }
-{
+// Answers a line, given without its newline: the calls on the card are here.
+fn answer(out: Stdout, card: &mut Card, line: &[u8]) {
     let row = lines::numbers_of(words::rest(line), DIGITS);
-    let numbers = row.numbers;
-    let word = words::word_of(line, row.count);
-    match word {
-        Word::Fresh => calls::fresh(out),
-        Word::Old => calls::old(out),
-        Word::Hear => calls::hear(out, card, numbers[0], numbers[1]),
-        Word::Read => calls::read(out, card, words::rest(line)),
-        Word::Confirm => calls::confirm(out, card, numbers[0]),
-        Word::Undo => calls::undo(out, card),
-        Word::CardShot => calls::shot(out, t, card),
-        Word::Pointing => calls::pointing(out, t, card, numbers[0]),
-        Word::Choice => {
-            lists::choice(out, row);
-            card
-        }
-        _ => {
-            answer_numbers(out, t, word, numbers);
-            card
-        }
+    match (words::word_of(line), row.as_slice()) {
+        (Word::Fresh, _) => calls::fresh(out, card),
+        (Word::Old, _) => calls::old(out, card),
+        (Word::Undo, _) => calls::undo(out, card),
+        (Word::CardShot, _) => calls::shot(out, card),
+        (Word::Read, _) => calls::read(out, card, words::rest(line)),
+        (Word::Hear, [field, number]) => calls::hear(out, card, *field, *number),
+        (Word::Confirm, [field]) => calls::confirm(out, card, *field),
+        (Word::Pointing, [angle]) => calls::pointing(out, card, *angle),
+        (Word::Choice, numbers) => lists::choice(out, numbers),
+        (word, numbers) => answer_numbers(out, word, numbers),
     }
 }
 
 // Answers a word that leaves the card alone, with its numbers.
-fn answer_numbers(out: Stdout, t: &SineTable, word: Word, n: [i64; lines::ROW])
-    requires { t.now ≡ entries }
-{
-    let edition = n[card::FIELDS];
-    match word {
-        Word::Sine => angles::sines(out, t, n[0]),
-        Word::Angle => angles::of_vector(out, t, n[0], n[1]),
-        Word::Direction => angles::of_direction(out, t, n[0], n[1], n[2], n[3], n[4], n[5]),
-        Word::Date => instant::date(out, n[0], n[1], n[2]),
-        Word::Shot => instant::shot(out, t, &n, fieldbook::DEFAULTS.edition),
-        Word::ShotByEdition => instant::shot(out, t, &n, edition),
-        Word::Parts => instant::at(out, t, word, &n, edition),
-        Word::Longitude => instant::at(out, t, word, &instant::fields_of(n), n[8]),
-        Word::Other => output::malformed(out),
-        // The others ask of an instant alone.
-        _ => instant::at(
-            out,
-            t,
-            word,
-            &instant::fields_of(n),
-            fieldbook::DEFAULTS.edition,
-        ),
+fn answer_numbers(out: Stdout, word: Word, numbers: &[i64]) {
+    match (word, numbers) {
+        (Word::Sine, [a]) => angles::sines(out, *a),
+        (Word::Angle, [x, y]) => angles::of_vector(out, *x, *y),
+        (Word::Direction, [x, y, z, sidereal, latitude, longitude]) => {
+            let site = Site {
+                latitude: *latitude,
+                longitude: *longitude,
+            };
+            angles::of_direction(out, *x, *y, *z, *sidereal, site);
+        }
+        (Word::Date, [year, month, day]) => instant::date(out, *year, *month, *day),
+        _ => answer_fields(out, word, numbers),
+    }
+}
+
+// Answers a word that asks with the fields of the card, from the first on, or with those of an instant; behind them an edition may stand.
+fn answer_fields(out: Stdout, word: Word, numbers: &[i64]) {
+    let default = fieldbook::DEFAULTS.edition;
+    match (word, numbers.len()) {
+        (Word::Shot, 11) => instant::shot(out, numbers, default),
+        (Word::Shot, 12) => instant::shot(out, numbers, numbers[11]),
+        (Word::Parts, 12) => instant::at(out, word, numbers, numbers[11]),
+        (Word::Longitude, 9) => instant::at(out, word, &instant::fields_of(numbers), numbers[8]),
+        (Word::Instant | Word::Sun, 8) => {
+            instant::at(out, word, &instant::fields_of(numbers), default)
+        }
+        _ => output::malformed(out),
     }
 }

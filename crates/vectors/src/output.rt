@@ -1,9 +1,8 @@
 // The parts of an answer's line. Each number but the first follows a space.
-use card::{Card, Field, Reading};
-use fieldbook::Outcome;
-use horizon::Sighting;
-use pointing::Mark;
-use refusal::{Refusal, Verdict};
+use card::{Card, Field};
+use fieldbook::ShotAngles;
+use horizon::SightAngles;
+use refusal::Refusal;
 use std::io::Stdout;
 
 pub fn newline(out: Stdout) {
@@ -16,7 +15,7 @@ pub fn accepted(out: Stdout) {
 }
 
 pub fn refused(out: Stdout, refusal: Refusal) {
-    number(out, refusal::number_of(refusal));
+    number(out, u64::from(refusal));
 }
 
 pub fn number(out: Stdout, refusal: u64) {
@@ -27,10 +26,10 @@ pub fn malformed(out: Stdout) {
     refused(out, Refusal::Malformed);
 }
 
-pub fn verdict(out: Stdout, verdict: Verdict) {
+pub fn verdict(out: Stdout, verdict: Result<(), Refusal>) {
     match verdict {
-        Verdict::Accepted => accepted(out),
-        Verdict::Refused(refusal) => refused(out, refusal),
+        Ok(()) => accepted(out),
+        Err(refusal) => refused(out, refusal),
     }
 }
 
@@ -39,13 +38,13 @@ pub fn space(out: Stdout) {
 }
 
 // A reading's refusal number and length, of which one is always 0.
-pub fn reading(out: Stdout, reading: Reading) {
+pub fn reading(out: Stdout, reading: Result<usize, Refusal>) {
     match reading {
-        Reading::Written(length) => {
+        Ok(length) => {
             accepted(out);
             natural(out, length as u64);
         }
-        Reading::Refused(refusal) => {
+        Err(refusal) => {
             refused(out, refusal);
             natural(out, 0);
         }
@@ -76,22 +75,22 @@ fn signed(out: Stdout, n: i64) {
 }
 
 pub fn integers(out: Stdout, numbers: &[i64]) {
-    for i in 0..numbers.len() {
-        integer(out, numbers[i]);
+    for &n in numbers {
+        integer(out, n);
     }
 }
 
 // A shot: the refusal's number and four angles, zeros where it is refused.
-pub fn shot(out: Stdout, outcome: Outcome) {
-    match outcome {
-        Outcome::Answered(a) => {
+pub fn shot(out: Stdout, shot: Result<ShotAngles, Refusal>) {
+    match shot {
+        Ok(a) => {
             accepted(out);
             natural(out, a.azimuth);
             natural(out, a.zenith_distance);
             natural(out, a.hour_angle);
             natural(out, a.longitude);
         }
-        Outcome::Refused(refusal) => {
+        Err(refusal) => {
             refused(out, refusal);
             let _ = out.write_all(b" 0 0 0 0");
         }
@@ -99,13 +98,13 @@ pub fn shot(out: Stdout, outcome: Outcome) {
 }
 
 // A pointing: the refusal's number and the mark's azimuth, 0 where it is refused.
-pub fn mark(out: Stdout, mark: Mark) {
+pub fn mark(out: Stdout, mark: Result<u64, Refusal>) {
     match mark {
-        Mark::Azimuth(azimuth) => {
+        Ok(azimuth) => {
             accepted(out);
             natural(out, azimuth);
         }
-        Mark::Refused(refusal) => {
+        Err(refusal) => {
             refused(out, refusal);
             natural(out, 0);
         }
@@ -113,15 +112,15 @@ pub fn mark(out: Stdout, mark: Mark) {
 }
 
 // What a sight begins its answer with, and what it ends it with.
-pub fn sight_begin(out: Stdout, sighting: Sighting) {
-    match sighting {
-        Sighting::Seen(_) => accepted(out),
-        Sighting::Refused(refusal) => refused(out, refusal),
+pub fn sight_begin(out: Stdout, sight: Result<SightAngles, Refusal>) {
+    match sight {
+        Ok(_) => accepted(out),
+        Err(refusal) => refused(out, refusal),
     }
 }
 
-pub fn sight_end(out: Stdout, sighting: Sighting) {
-    if let Sighting::Seen(a) = sighting {
+pub fn sight_end(out: Stdout, sight: Result<SightAngles, Refusal>) {
+    if let Ok(a) = sight {
         natural(out, a.azimuth);
         natural(out, a.zenith_distance);
         natural(out, a.hour_angle);
@@ -129,10 +128,10 @@ pub fn sight_end(out: Stdout, sighting: Sighting) {
 }
 
 // The bar, and each field's state and number.
-pub fn card(out: Stdout, card: Card) {
+pub fn card(out: Stdout, card: &Card) {
     let _ = out.write_all(b"|");
-    for i in 0..card::FIELDS {
-        field(out, card::field_of(card, (i + 1) as i64));
+    for f in card.fields() {
+        field(out, *f);
     }
 }
 
@@ -155,18 +154,10 @@ fn state(out: Stdout, letter: u8, n: i64) {
 // A buffer as pairs of hexadecimal digits, or "-" where it is empty.
 pub fn hex(out: Stdout, buffer: &[u8]) {
     space(out);
-    if buffer.len() == 0 {
+    if buffer.is_empty() {
         let _ = out.write_all(b"-");
     }
-    hex_pairs(out, buffer);
-}
-
-fn hex_pairs(out: Stdout, buffer: &[u8]) {
-    for i in 0..buffer.len() {
-        hex_pair(out, buffer[i]);
+    for b in buffer {
+        let _ = print!(out; "{b:02x}");
     }
-}
-
-fn hex_pair(out: Stdout, b: u8) {
-    let _ = print!(out; "{b:02x}");
 }

@@ -15,13 +15,8 @@ short x y z hx hy hz = omega (arith, mul-le-mul hx hx, mul-le-mul hy hy, mul-le-
 
 pub from_position-requires : goal.from_position-requires
 from_position-requires c =
-    let z = c.before.before.before in
-    let y = z.before.before in
-    let x = y.before in
-    let l = x.before.before.before.before.before in
-    let s = l.before in
-    let ex = simp (to_z-of_z, s.ranges.x) at x.magnitude.ensures in
-    let ey = simp (to_z-of_z, s.ranges.y) at y.magnitude-2.ensures in
-    let ez = simp (to_z-of_z, s.ranges.z) at z.magnitude-3.ensures in
-    simp (to_z-of_z, s.ranges.x, s.ranges.y, s.ranges.z)
-    (s.requires, short s.args.x s.args.y s.args.z (omega arith) (omega arith) (omega arith), c.reduced.ensures.1, l.located-located.ensures)
+    let ex = simp (to_z-of_z, c.ranges.x) at c.magnitude.ensures in
+    let ey = simp (to_z-of_z, c.ranges.y) at c.magnitude-2.ensures in
+    let ez = simp (to_z-of_z, c.ranges.z) at c.magnitude-3.ensures in
+    simp (to_z-of_z, c.ranges.x, c.ranges.y, c.ranges.z)
+    (short c.args.x c.args.y c.args.z (omega arith) (omega arith) (omega arith), c.reduced.ensures.1, c.in-Ok.ensures.1)

@@ -23,7 +23,7 @@ squares (x ∷ y ∷ d) m n e f h = rw (e, f) (omega arith)
 
 module _ (c : Start) where
   component-le : Bounded component_most c.args.d
-  component-le = components-le c.args.d c.requires.1
+  component-le = components-le c.args.d c.requires
 
   component-fits : (i : ℕ) → SFits w64 (nth c.args.d i)
   component-fits i = fits_le component_most (nth c.args.d i) (component-le i) refl
@@ -39,7 +39,7 @@ module _ (c : After-magnitude-n) where
   squares-le =
       let e = simp (to_z-of_z, component-fits start 0) at first.magnitude-m.ensures in
       let f = simp (to_z-of_z, component-fits start 1) at c.magnitude-n.ensures in
-      squares start.args.d first.magnitude-m.result c.magnitude-n.result e f start.requires.1
+      squares start.args.d first.magnitude-m.result c.magnitude-n.result e f start.requires
 
 module _ (c : After-root-h) where
   root-le : c.root-h.result ≤ component_most
@@ -64,10 +64,10 @@ overflow_cast-h c = omega (arith, root-le c)
 pub angle-requires : goal.angle-requires
 angle-requires c =
     let s = start c.before.before.before in
-    simp (to_z-of_z, component-fits s 0, component-fits s 1) (s.requires.0, omega (arith, component-le s 0), omega (arith, component-le s 1))
+    simp (to_z-of_z, component-fits s 0, component-fits s 1) (omega (arith, component-le s 0), omega (arith, component-le s 1))
 
 pub angle-requires-2 : goal.angle-requires-2
 angle-requires-2 c =
     let r = c.before.before.before.before.before in
     let s = start r.before in
-    simp (to_z-of_z, component-fits s 2, root_is r) (s.requires.0, omega (arith, root-le r), omega (arith, component-le s 2))
+    simp (to_z-of_z, component-fits s 2, root_is r) (omega (arith, root-le r), omega (arith, component-le s 2))
