@@ -2,10 +2,9 @@
 // call, and where they are no card nothing is written.
 #![tactic(auto)]
 
-ghost use Rattle.std.specs.Prelude.{◌≡◌, Result};
+ghost use Rattle.std.specs.Prelude.{◌≡◌};
 ghost use Rattle.std.specs.Fn.{FnOnceReturnsAtMut};
 ghost use Rattle.refusal.specs.RefusalNumbers.{verdict_number};
-ghost use Rattle.card.specs.declared.Card.{Card};
 ghost use Rattle.lent_card.specs.LentCard.{words_values, CalledOn, fresh_words, hear_words, confirm_words, undo_words, read_words_values, read_words, buffer_words};
 
 use card::Card;
