@@ -52,8 +52,8 @@ fn fields_from(words: &[i64]) -> Option<[Field; FIELDS]>
     ensures { result ≡ fields_said words.now }
 {
     let mut fields = [Field::Empty; FIELDS];
-    for i in 0..FIELDS {
-        fields[i] = field_from(words[2 * i], words[2 * i + 1])?;
+    for (i, field) in fields.iter_mut().enumerate() {
+        *field = field_from(words[2 * i], words[2 * i + 1])?;
     }
     Some(fields)
 }

@@ -53,14 +53,14 @@ pub loop-i-init : goal.loop-i-init
 unfolding fields_in
 loop-i-init c = refl
 
-pub returns-in_err-fields : goal.returns-in_err-fields
-returns-in_err-fields c =
+pub returns-in_err-field : goal.returns-in_err-field
+returns-in_err-field c =
     let l = c.loop-i in
     let ws = c.args.words.now in
     let f : SFits w64 (nth ws (2 * l.i)) = search rules in
     let g : SFits w64 (nth ws (2 * l.i + 1)) = search rules in
     c.from_residual.ensures
-    ∙ next-none ws l.fields l.i (omega arith) (unread f g (sym c.in_err-fields.was ∙ c.field_from.ensures))
+    ∙ next-none ws l.field-items l.i (omega arith) (unread f g (sym c.in_err-field.was ∙ c.field_from.ensures))
     ∙ l.invariant
 
 pub loop-i-preserved : goal.loop-i-preserved
@@ -69,10 +69,10 @@ loop-i-preserved c =
     let ws = c.args.words.now in
     let f : SFits w64 (nth ws (2 * l.i)) = search rules in
     let g : SFits w64 (nth ws (2 * l.i + 1)) = search rules in
-    let r = read f g (sym c.in_ok-fields.was ∙ c.field_from.ensures) in
-    ap (λ v. answer ws (set l.fields l.i v) (l.i + 1) (field_count - (l.i + 1))) r.1
-    ∙ next_field ws l.fields l.i (omega arith) r.0
+    let r = read f g (sym c.in_ok-field.was ∙ c.field_from.ensures) in
+    ap (λ v. answer ws (set l.field-items l.i v) (l.i + 1) (field_count - (l.i + 1))) r.1
+    ∙ next_field ws l.field-items l.i (omega arith) r.0
     ∙ l.invariant
 
 pub returns : goal.returns
-returns c = let l = c.loop-i in all_read c.args.words.now l.fields l.i (omega arith) ∙ l.invariant
+returns c = let l = c.loop-i in all_read c.args.words.now l.field-items l.i (omega arith) ∙ l.invariant

@@ -12,4 +12,4 @@ abbrev pub answer : List ℤ → List Field → ℕ → ℕ → Option (List Fie
 answer ws fields i k = cond (are_fields ws i k) (Some (sets fields i (fields_in ws i k))) None
 
 abbrev pub invariant-loop-i : goal.invariant-loop-i
-invariant-loop-i l = answer l.words l.fields l.i (field_count - l.i) ≡ fields_said l.words
+invariant-loop-i l = answer l.words l.field-items l.i (field_count - l.i) ≡ fields_said l.words
