@@ -2,35 +2,46 @@
 // coefficients of sidereal time ("Time"). Amplitudes and phases are in units of 0.0001″; behind each row stands the term as it is printed, in
 // seconds of arc.
 use arguments::{L, LM, MS, OMEGA};
-use series::Series;
+use series::{Group, Series};
 
 // A quadrant, in units: a cosine's phase has one more.
 const Q: i64 = 3_240_000_000;
 
-// Δψ: one amplitude varies.
+// The terms of Δψ: one amplitude varies.
 pub static DPSI: Series = Series {
     varying: &[
         [-172_327, -174, 0, 0, 1, OMEGA as i64], // −(17.2327 + 0.01737 T) sin Ω
     ],
-    groups: &[[OMEGA, L, LM, 3], [MS, L, L, 1]],
-    rows: &[
-        [2_088, 0, 2, 0, 0], // 0.2088 sin 2Ω
-        [-12_729, 0, 0, 2, 0], // −1.2729 sin 2L
-        [-2_037, 0, 0, 0, 2], // −0.2037 sin 2Lm
-        [1_261, 0, 1, 0, 0], // 0.1261 sin Ms
+    groups: &[
+        Group {
+            arguments: [OMEGA, L, LM],
+            rows: &[
+                [2_088, 0, 2, 0, 0], // 0.2088 sin 2Ω
+                [-12_729, 0, 0, 2, 0], // −1.2729 sin 2L
+                [-2_037, 0, 0, 0, 2], // −0.2037 sin 2Lm
+            ],
+        },
+        Group {
+            arguments: [MS, L, L],
+            rows: &[
+                [1_261, 0, 1, 0, 0], // 0.1261 sin Ms
+            ],
+        },
     ],
 };
 
-// Δε: no amplitude varies.
+// The terms of Δε: no amplitude varies.
 pub static DEPS: Series = Series {
     varying: &[],
-    groups: &[[OMEGA, L, LM, 4]],
-    rows: &[
-        [92_100, Q, 1, 0, 0], // 9.2100 cos Ω
-        [5_522, Q, 0, 2, 0], // 0.5522 cos 2L
-        [-904, Q, 2, 0, 0], // −0.0904 cos 2Ω
-        [884, Q, 0, 0, 2], // 0.0884 cos 2Lm
-    ],
+    groups: &[Group {
+        arguments: [OMEGA, L, LM],
+        rows: &[
+            [92_100, Q, 1, 0, 0], // 9.2100 cos Ω
+            [5_522, Q, 0, 2, 0], // 0.5522 cos 2L
+            [-904, Q, 2, 0, 0], // −0.0904 cos 2Ω
+            [884, Q, 0, 0, 2], // 0.0884 cos 2Lm
+        ],
+    }],
 };
 
 // What Newcomb's sidereal time has beyond the time since midnight, a row like those of `arguments`, in units: 6h 38m 45.836s, 8640184.542s T,

@@ -2,11 +2,11 @@
 -- whatever the order of the terms.
 use mathlib.Core.Path.{◌≡◌, sym, ap, subst, ◌∙◌}
 use mathlib.Core.List.{List, [], ◌∷◌, ◌++◌, map}
-use Prim.Native.Nat.{ℕ, suc, ◌+◌, ◌*◌, ◌≤◌, ◌<◌}
+use Prim.Native.Nat.{ℕ, suc, ◌*◌, ◌≤◌, ◌<◌}
 use native.Mathlib.Nat.{le_trans}
 use native.Mathlib.Omega.{arith}
 use lib.IntN.{ℤ, pos, nat_abs, ◌+ℤ◌}
-use lib.ListN.{length, get_or, take, drop, drop_of_length-le}
+use lib.ListN.{length, get_or, drop, drop_of_length-le}
 use lib.Seq.{drop-cons}
 use mir.Syntax.{w64}
 use mir.Val.{SFits}
@@ -16,8 +16,9 @@ use Rattle.sine_table.specs.Table.{R}
 use Rattle.sine.specs.Sine.{Sin}
 use Rattle.series.specs.Term.{Term, value}
 use Rattle.series.specs.Sum.{total, weights}
-use Rattle.series.specs.Rows.{index, row_count, steady_term, steady_terms}
-use Rattle.series.specs.Sizes.{heaviest, counts}
+use Rattle.series.specs.Rows.{group_terms, steady_terms}
+use Rattle.series.specs.Sizes.{heaviest}
+use Rattle.series.specs.declared.Group.{Group}
 use Rattle.series.proofs.Sums.{shift, zero_left, zero_right, total-append, weights-append, sum-le}
 
 pub lights : (some rest : List Term) → weights (some ++ rest) ≤ heaviest → (weights some ≤ heaviest) × (weights rest ≤ heaviest)
@@ -79,21 +80,8 @@ module _ (arguments : List ℤ) (q : ℤ) where
     rows-sum i sum h l =
         left-none (map g rows) sum (subst (λ (rs : List (List ℤ)). Left (map g rows) (map g rs) sum) (drop_of_length-le rows {i = i} h) l)
 
--- ---- groups of rows: the group at i, with whose rows `rest` begins, and the groups behind it
-module _ (groups : List (List ℕ)) (rest : List (List ℤ)) (i : ℕ) (h : i < length groups) where
-  abbrev g : List ℕ
-  g = get_or groups i []
-
-  abbrev pub group_terms : List Term
-  group_terms = map (steady_term (index g 0) (index g 1) (index g 2)) (take (row_count g) rest)
-
-  abbrev pub behind : List Term
-  behind = steady_terms (drop (suc i) groups) (drop (row_count g) rest)
-
-  pub groups-next : steady_terms (drop i groups) rest ≡ group_terms ++ behind
-  unfolding steady_terms
-  groups-next = ap (λ (gs : List (List ℕ)). steady_terms gs rest) (drop-cons groups i [] h)
-
-  pub counts-next : counts (drop i groups) ≡ row_count g + counts (drop (suc i) groups)
-  unfolding counts
-  counts-next = ap counts (drop-cons groups i [] h)
+-- ---- groups: the one at i, and those behind it
+pub groups-next : (groups : List Group) (i : ℕ) (beyond : Group) → i < length groups
+    → steady_terms (drop i groups) ≡ group_terms (get_or groups i beyond) ++ steady_terms (drop (suc i) groups)
+unfolding steady_terms
+groups-next groups i beyond h = ap steady_terms (drop-cons groups i beyond h)

@@ -1,9 +1,11 @@
 -- Terms as rows of whole numbers, laid out for the sum. What the rows of a series stand for is a list of terms like any other (`terms`), and a row's
 -- amplitude times the sine of its angle is the value of its term (law `steady-value`).
-use Rattle.std.specs.Prelude.{Bool, true, false, List, [], ◌∷◌, ◌++◌, map, ℕ, eqb, ℤ, pos, nat_abs, ◌+ℤ◌, ◌*ℤ◌, get_or, take, drop}
+use Rattle.std.specs.Prelude.{Bool, true, false, List, [], ◌∷◌, ◌++◌, map, ℕ, eqb, ℤ, pos, nat_abs, ◌+ℤ◌, ◌*ℤ◌, get_or}
 use Rattle.exact.specs.Nth.{nth}
 use Rattle.series.specs.Term.{Part, Term}
 use Rattle.series.specs.Notation.{term, none}
+use Rattle.series.specs.declared.Group.{Group}
+use Rattle.series.specs.declared.Series.{Series}
 
 -- ---- a steady amplitude: amplitude, phase, and the multiples of the three arguments of the row's group
 
@@ -34,17 +36,17 @@ steady_term i j k row = with_parts row (kept (parts i j k row))
 unfoldable pub steady_angle : List ℤ → ℤ → ℤ → ℤ → ℤ
 steady_angle row a b c = nth row 1 +ℤ nth row 2 *ℤ a +ℤ nth row 3 *ℤ b +ℤ nth row 4 *ℤ c
 
--- a group: the indices of its three arguments, and how many rows it has
-abbrev pub index : List ℕ → ℕ → ℕ
-index group i = get_or group i 0
+-- a group: the indices of its three arguments, and its terms
+abbrev pub index : Group → ℕ → ℕ
+index group i = get_or group.arguments i 0
 
-abbrev pub row_count : List ℕ → ℕ
-row_count group = get_or group 3 0
+abbrev pub group_terms : Group → List Term
+group_terms group = map (steady_term (index group 0) (index group 1) (index group 2)) group.rows.now
 
--- the terms of groups whose rows stand one after the other
-unfoldable pub steady_terms : List (List ℕ) → List (List ℤ) → List Term
-steady_terms [] rows = []
-steady_terms (g ∷ gs) rows = map (steady_term (index g 0) (index g 1) (index g 2)) (take (row_count g) rows) ++ steady_terms gs (drop (row_count g) rows)
+-- the terms of all groups, in order
+unfoldable pub steady_terms : List Group → List Term
+steady_terms [] = []
+steady_terms (g ∷ gs) = group_terms g ++ steady_terms gs
 
 -- ---- a varying amplitude: c0, c1, c2, phase, and the multiple and index of one argument
 unfoldable pub varying_term : List ℤ → Term
@@ -55,5 +57,5 @@ abbrev pub varying_terms : List (List ℤ) → List Term
 varying_terms rows = map varying_term rows
 
 -- ---- a series: the terms whose amplitudes vary, and then the others
-abbrev pub terms : List (List ℤ) → List (List ℕ) → List (List ℤ) → List Term
-terms varying groups rows = varying_terms varying ++ steady_terms groups rows
+abbrev pub terms : Series → List Term
+terms series = varying_terms series.varying.now ++ steady_terms series.groups.now

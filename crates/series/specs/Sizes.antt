@@ -1,15 +1,16 @@
 -- How large the numbers of rows may be, so that no step of a sum leaves 64 bits and no index lies outside the arguments: all printed terms are
 -- smaller.
-use Rattle.std.specs.Prelude.{List, [], ◌∷◌, map, ℕ, ◌+◌, ◌^◌, ◌≤◌, ◌<◌, ℤ, pos, nat_abs, length, get_or, ◌≤ℤ◌}
+use Rattle.std.specs.Prelude.{List, [], ◌∷◌, ℕ, ◌^◌, ◌≤◌, ◌<◌, ℤ, pos, nat_abs, length, get_or, ◌≤ℤ◌}
 use Rattle.exact.specs.Nth.{nth}
 use Rattle.exact.specs.Sizes.{AllReduced}
 use Rattle.secular.specs.Sizes.{most_millionths}
 use Rattle.series.specs.Sum.{weights}
-use Rattle.series.specs.Rows.{index, row_count, steady_term, steady_terms, varying_terms}
+use Rattle.series.specs.Rows.{index, group_terms, steady_terms, varying_terms}
+use Rattle.series.specs.declared.Group.{Group}
 
--- a rule of every row
-abbrev pub Each : {A : Type 0} → (List A → Type 0) → List (List A) → Type 0
-Each P rows = (i : ℕ) → i < length rows → P (get_or rows i [])
+-- a rule of every row, or of every group
+abbrev pub Each : {A : Type 0} → (A → Type 0) → List A → Type 0
+Each {A} P rows = (i : ℕ) (beyond : A) → i < length rows → P (get_or rows i beyond)
 
 -- no number of a row is larger than its bound
 abbrev pub AtMost : List ℕ → List ℤ → Type 0
@@ -29,30 +30,21 @@ heaviest = 2 ^ 31
 
 -- ---- steady amplitudes
 
--- the indices of a group lie within k arguments
-abbrev pub Indexed : ℕ → List ℕ → Type 0
-Indexed k group = (i : ℕ) → i < 3 → index group i < k
+-- a group over k arguments: its indices lie within them
+pub record SmallGroup (k : ℕ) (group : Group) : Type 0 where
+  pub indexed : (i : ℕ) → i < 3 → index group i < k
+  pub small : Each (AtMost steady_bounds) group.rows.now
 
 -- one group
-pub record GroupReady (i j k : ℕ) (rows : List (List ℤ)) (arguments : List ℤ) : Type 0 where
+pub record GroupReady (group : Group) (arguments : List ℤ) : Type 0 where
   pub angles : AllReduced arguments
-  pub first : i < length arguments
-  pub second : j < length arguments
-  pub third : k < length arguments
-  pub small : Each (AtMost steady_bounds) rows
-  pub light : weights (map (steady_term i j k) rows) ≤ heaviest
+  pub each : SmallGroup (length arguments) group
+  pub light : weights (group_terms group) ≤ heaviest
 
--- how many rows the groups have together
-unfoldable pub counts : List (List ℕ) → ℕ
-counts [] = 0
-counts (g ∷ gs) = row_count g + counts gs
-
-pub record SteadyReady (groups : List (List ℕ)) (rows : List (List ℤ)) (arguments : List ℤ) : Type 0 where
+pub record SteadyReady (groups : List Group) (arguments : List ℤ) : Type 0 where
   pub angles : AllReduced arguments
-  pub indexed : Each (Indexed (length arguments)) groups
-  pub enough : counts groups ≤ length rows
-  pub small : Each (AtMost steady_bounds) rows
-  pub light : weights (steady_terms groups rows) ≤ heaviest
+  pub each : Each (SmallGroup (length arguments)) groups
+  pub light : weights (steady_terms groups) ≤ heaviest
 
 -- ---- varying amplitudes
 

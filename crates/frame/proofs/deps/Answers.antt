@@ -13,7 +13,6 @@ use Rattle.epoch.proofs.Sizes.{q-size, q-fits}
 use Rattle.arguments.specs.PrintedArguments.{argument_count}
 use Rattle.series.specs.Sum.{weights}
 use Rattle.series.specs.Rows.{kept, steady_term, steady_terms, varying_term}
-use Rattle.series.specs.Sizes.{counts}
 use Rattle.series.proofs.Sizes.{sum-ready}
 use Rattle.frame.specs.Nutation.{deps}
 use Rattle.frame.proofs.deps.Goals.{After-rounded_sum}
@@ -28,7 +27,7 @@ module _ (c : After-rounded_sum) where
   )
 
 pub rounded_sum-requires : goal.rounded_sum-requires
-unfolding weights most kept steady_term steady_terms varying_term counts
+unfolding weights most kept steady_term steady_terms varying_term
 rounded_sum-requires c =
     simp (to_z-of_z, q-fits c.e.invariant) (sum-ready argument_count c.requires.reduced c.requires.all (q-size c.e.invariant) tt tt tt)
 

@@ -13,13 +13,12 @@ use Rattle.sine.specs.Sine.{Sin}
 use Rattle.arguments.specs.PrintedArguments.{argument_count}
 use Rattle.series.specs.Sum.{total, weights}
 use Rattle.series.specs.Rows.{kept, steady_term, steady_terms, varying_term}
-use Rattle.series.specs.Sizes.{counts}
 use Rattle.series.proofs.Sizes.{steady-ready, varying-ready}
 use Rattle.sun.specs.Series.{centre}
 use Rattle.sun.proofs.centre_sum.Goals as goal
 
 pub sum-requires : goal.sum-requires
-unfolding weights most kept steady_term steady_terms varying_term counts
+unfolding weights most kept steady_term steady_terms varying_term
 sum-requires c =
     let a = c.requires.0 in
     (varying-ready argument_count a.reduced a.all (simp (to_z-of_z, c.ranges.q) c.requires.1) tt, steady-ready argument_count a.reduced a.all tt)

@@ -16,14 +16,13 @@ use Rattle.epoch.proofs.Sizes.{q-size, q-fits}
 use Rattle.arguments.specs.PrintedArguments.{full_count}
 use Rattle.series.specs.Sum.{total, weights}
 use Rattle.series.specs.Rows.{kept, steady_term, steady_terms, varying_term}
-use Rattle.series.specs.Sizes.{counts}
 use Rattle.series.proofs.Sizes.{steady-ready, varying-ready}
 use Rattle.sun.specs.Series.{further}
 use Rattle.sun.proofs.further_sum.Goals.{After-sum}
 use Rattle.sun.proofs.further_sum.Goals as goal
 
 pub sum-requires : goal.sum-requires
-unfolding weights most kept steady_term steady_terms varying_term counts
+unfolding weights most kept steady_term steady_terms varying_term
 sum-requires c =
     let r = c.full_arguments_of-all.ensures.1 in
     (varying-ready full_count r.reduced r.all (simp (to_z-of_z, q-fits c.e.invariant) (q-size c.e.invariant)) tt, steady-ready full_count r.reduced r.all tt)

@@ -13,13 +13,12 @@ use Rattle.sine.specs.Sine.{Sin}
 use Rattle.arguments.specs.PrintedArguments.{argument_count}
 use Rattle.series.specs.Sum.{total, weights}
 use Rattle.series.specs.Rows.{kept, steady_term, steady_terms}
-use Rattle.series.specs.Sizes.{counts}
 use Rattle.series.proofs.Sizes.{steady-ready}
 use Rattle.sun.specs.Series.{periodic}
 use Rattle.sun.proofs.periodic_sum.Goals as goal
 
 pub steady_sum-requires : goal.steady_sum-requires
-unfolding weights most kept steady_term steady_terms counts
+unfolding weights most kept steady_term steady_terms
 steady_sum-requires c = steady-ready argument_count c.requires.reduced c.requires.all tt
 
 pub returns : goal.returns

@@ -12,18 +12,15 @@ use Rattle.sine.specs.Sine.{Sin}
 use Rattle.series.specs.Term.{Term}
 use Rattle.series.specs.Sum.{total, table_sum, weights}
 use Rattle.series.specs.Rows as Rows
-use Rattle.series.proofs.Series.rounded_sum.Goals.{After-sum, Start}
+use Rattle.series.proofs.Series.rounded_sum.Goals.{After-sum}
 use Rattle.series.proofs.Series.rounded_sum.Goals as goal
 
 module _ (c : After-sum) where
-  abbrev start : Start
-  start = c.before
-
   abbrev terms : List Term
-  terms = Rows.terms start.args.self.now.varying.now start.args.self.now.groups.now start.args.self.now.rows.now
+  terms = Rows.terms c.args.self.now
 
-  sum_is : c.sum.result ≡ total Sin start.args.arguments.now start.args.q terms
-  sum_is = simp (to_z-of_z, start.ranges.q) at c.sum.ensures.0
+  sum_is : c.sum.result ≡ total Sin c.args.arguments.now c.args.q terms
+  sum_is = simp (to_z-of_z, c.ranges.q) at c.sum.ensures.0
 
   sum_fits : SFits w64 c.sum.result
   sum_fits = ok-fits c.sum.result c.sum.type_inv
