@@ -3,7 +3,6 @@ ghost use Rattle.std.specs.Prelude.{◌≡◌, ◌+◌, ◌*◌, ◌≤◌, ◌<
 ghost use Rattle.exact.specs.Reduction.{turn};
 ghost use Rattle.rotation.specs.Length.{squared_length, growth};
 ghost use Rattle.rotation.specs.Sizes.{reach};
-ghost use Rattle.site.specs.Sizes.{PositionSized};
 
 use crate::output;
 use rotation::Direction;
@@ -59,7 +58,7 @@ fn larger(a: u64, b: u64) -> u64
 }
 
 fn from_position(out: Stdout, d: Direction, sidereal: u64, position: Position)
-    requires { (squared_length d + 2 * growth ≤ reach) × (sidereal < turn) × PositionSized position }
+    requires { (squared_length d + 2 * growth ≤ reach) × (sidereal < turn) }
 {
     let sight = horizon::sight(d, sidereal, position);
     output::sight_begin(out, sight);
@@ -69,7 +68,7 @@ fn from_position(out: Stdout, d: Direction, sidereal: u64, position: Position)
 
 // A direction d, then (x', east, z), then up and north.
 pub fn write_view(out: Stdout, d: Direction, sidereal: u64, position: Position)
-    requires { (squared_length d + 2 * growth ≤ reach) × (sidereal < turn) × PositionSized position }
+    requires { (squared_length d + 2 * growth ≤ reach) × (sidereal < turn) }
 {
     let m = horizon::to_meridian(d, sidereal, position.longitude);
     let h = horizon::to_horizon(m, position.latitude);

@@ -7,7 +7,6 @@ ghost use Rattle.rotation.specs.Sizes.{reach};
 ghost use Rattle.arguments.specs.PrintedArguments.{arguments_of};
 ghost use Rattle.frame.specs.FrameContract.{IsFrame};
 ghost use Rattle.polaris.specs.Sizes.{ElementsSized};
-ghost use Rattle.site.specs.Sizes.{PositionSized};
 ghost use Rattle.card.specs.Fields.{field_count};
 ghost use Rattle.vectors.specs.Sizes.{QuantitiesSized};
 
@@ -181,7 +180,7 @@ fn parts(out: Stdout, epochs: Epochs, site: Site, body: i64, edition: i64) {
 }
 
 fn parts_from(out: Stdout, quantities: &Quantities, position: Position, is_sun: bool)
-    requires { QuantitiesSized quantities.now × PositionSized position }
+    requires { QuantitiesSized quantities.now }
 {
     let d = direction_of(quantities, is_sun);
     let sight = horizon::sight(d, quantities.sidereal, position);

@@ -19,4 +19,4 @@ from_position-requires c =
     let ey = simp (to_z-of_z, c.ranges.y) at c.magnitude-2.ensures in
     let ez = simp (to_z-of_z, c.ranges.z) at c.magnitude-3.ensures in
     simp (to_z-of_z, c.ranges.x, c.ranges.y, c.ranges.z)
-    (short c.args.x c.args.y c.args.z (omega arith) (omega arith) (omega arith), c.reduced.ensures.1, c.in-Ok.ensures.1)
+    (short c.args.x c.args.y c.args.z (omega arith) (omega arith) (omega arith), c.reduced.ensures.1)
