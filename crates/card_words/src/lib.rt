@@ -70,7 +70,7 @@ pub fn from_words(words: &[i64]) -> Option<Card>
     Some(Card::from_parts(fields, latest))
 }
 
-// The number of a field's state.
+// The number of a field's state. Kept: no `From<Field>`, which crate `card` alone could give, and a number of a state is the words' business.
 fn state_number(field: Field) -> i64
     ensures { result ≡ state_number field }
 {

@@ -29,7 +29,7 @@ pub fn dpsi(arguments: &[i64], e: Epoch) -> i64
     tables::DPSI.rounded_sum(arguments, e.q)
 }
 
-// Δε of an epoch, from its arguments.
+// Δε of an epoch, from its arguments. Kept beside `dpsi`: what both share is `rounded_sum` of any series, and each has its own definition.
 fn deps(arguments: &[i64], e: Epoch) -> i64
     requires { IsArguments arguments.now }
     ensures { (result ≡ deps arguments.now e.q) × (nat_abs result ≤ 2 ^ 20) }

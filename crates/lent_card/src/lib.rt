@@ -22,7 +22,7 @@ pub struct ReadAnswer {
     pub length: u64,
 }
 
-// The refusal's number, 0 where the call is accepted.
+// The refusal's number, 0 where the call is accepted, as C is told. Kept: no `From`, since `Result` and `u64` are both std's.
 fn number_of(answer: Result<(), Refusal>) -> u64
     ensures { result ≡ verdict_number answer }
 {

@@ -85,6 +85,7 @@ pub enum Command {
     Read(i64),
     Confirm(i64),
     Shoot,
+    // Kept: no `Option<Command>`, since a malformed line is answered like any other, by its own case of `command_text`.
     Malformed,
 }
 

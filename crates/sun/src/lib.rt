@@ -89,7 +89,8 @@ fn full_sum(short: i64, arguments: &[i64; arguments::COUNT], e: Epoch) -> i64
 }
 
 // What the terms of an edition add to the mean longitude at an epoch, in units: all of them are rounded together.
-// Kept: the edition is a number and no enum, since the function answers for every number.
+// Kept: the edition is a number and no enum, since the function answers for every number. Kept: arguments and epoch are two parameters, here and
+// in `frame`, since some functions take any reduced arguments with any epoch, which a struct of an epoch's own arguments would not allow.
 fn first_sum(edition: i64, arguments: &[i64; arguments::COUNT], e: Epoch) -> i64
     requires { arguments.now ≡ arguments_of e }
     ensures { (result ≡ first_sum edition e) × (nat_abs result ≤ 2 ^ 29) × InSpan e }
