@@ -28,7 +28,7 @@ pub fn sines(out: Stdout, a: i64) {
 
 // The angle of the vector (x, y).
 pub fn of_vector(out: Stdout, x: i64, y: i64) {
-    if REACH < larger(exact::magnitude(x), exact::magnitude(y)) {
+    if REACH < exact::magnitude(x).max(exact::magnitude(y)) {
         return output::malformed(out);
     }
     output::accepted(out);
@@ -44,17 +44,11 @@ pub fn of_direction(out: Stdout, x: i64, y: i64, z: i64, sidereal: i64, site: Si
     if !exact::is_reduced(sidereal) {
         return output::malformed(out);
     }
-    let side = larger(exact::magnitude(x), exact::magnitude(y));
-    if SIDE < larger(side, exact::magnitude(z)) {
+    let side = exact::magnitude(x).max(exact::magnitude(y));
+    if SIDE < side.max(exact::magnitude(z)) {
         return output::malformed(out);
     }
     from_position(out, [x, y, z], exact::reduced(sidereal), position);
-}
-
-fn larger(a: u64, b: u64) -> u64
-    ensures { (a ≤ result) × (b ≤ result) }
-{
-    a.max(b)
 }
 
 fn from_position(out: Stdout, d: Direction, sidereal: u64, position: Position)

@@ -157,7 +157,7 @@ fn write_short_way(out: Stdout, a: u64)
     requires { a < turn }
 {
     if 2 * sine::QUADRANT < a {
-        output::negative(out, 4 * sine::QUADRANT - a);
+        output::integer(out, a as i64 - exact::TURN);
     } else {
         output::natural(out, a);
     }

@@ -53,25 +53,11 @@ pub fn reading(out: Stdout, reading: Result<usize, Refusal>) {
 
 // A number behind a space.
 pub fn natural(out: Stdout, n: u64) {
-    space(out);
-    let _ = out.print(n);
-}
-
-pub fn negative(out: Stdout, n: u64) {
-    let _ = out.write_all(b" -");
-    let _ = out.print(n);
+    let _ = print!(out; " {n}");
 }
 
 pub fn integer(out: Stdout, n: i64) {
-    space(out);
-    signed(out, n);
-}
-
-fn signed(out: Stdout, n: i64) {
-    if n < 0 {
-        let _ = out.write_all(b"-");
-    }
-    let _ = out.print(exact::magnitude(n));
+    let _ = print!(out; " {n}");
 }
 
 pub fn integers(out: Stdout, numbers: &[i64]) {
@@ -140,15 +126,16 @@ fn field(out: Stdout, field: Field) {
         Field::Empty => {
             let _ = out.write_all(b" e");
         }
-        Field::Heard(n) => state(out, b'h', n),
-        Field::Read(n) => state(out, b'r', n),
-        Field::Confirmed(n) => state(out, b'c', n),
+        Field::Heard(n) => {
+            let _ = print!(out; " h{n}");
+        }
+        Field::Read(n) => {
+            let _ = print!(out; " r{n}");
+        }
+        Field::Confirmed(n) => {
+            let _ = print!(out; " c{n}");
+        }
     }
-}
-
-fn state(out: Stdout, letter: u8, n: i64) {
-    let _ = out.write_all(&[b' ', letter]);
-    signed(out, n);
 }
 
 // A buffer as pairs of hexadecimal digits, or "-" where it is empty.

@@ -3,6 +3,7 @@ use mathlib.Core.List.{[], ◌∷◌}
 use Prim.Native.Nat.{◌+◌, ◌*◌, ◌≤◌}
 use native.Mathlib.Nat.{mul-le-mul}
 use native.Mathlib.Omega.{arith}
+use Rattle.std.proofs.lemmas.Int.{clamps}
 use lib.IntN.{ℤ, nat_abs}
 use mir.Facts.{to_z-of_z}
 use Rattle.rotation.specs.Length.{squared_length, growth}
@@ -19,4 +20,4 @@ from_position-requires c =
     let ey = simp (to_z-of_z, c.ranges.y) at c.magnitude-2.ensures in
     let ez = simp (to_z-of_z, c.ranges.z) at c.magnitude-3.ensures in
     simp (to_z-of_z, c.ranges.x, c.ranges.y, c.ranges.z)
-    (short c.args.x c.args.y c.args.z (omega arith) (omega arith) (omega arith), c.reduced.ensures.1)
+    (short c.args.x c.args.y c.args.z (omega (arith, clamps)) (omega (arith, clamps)) (omega (arith, clamps)), c.reduced.ensures.1)
