@@ -6,9 +6,8 @@ ghost use Rattle.rotation.specs.Length.{squared_length, growth};
 ghost use Rattle.rotation.specs.Sizes.{reach};
 ghost use Rattle.arguments.specs.PrintedArguments.{arguments_of};
 ghost use Rattle.frame.specs.FrameContract.{IsFrame};
-ghost use Rattle.polaris.specs.Sizes.{ElementsSized};
 ghost use Rattle.card.specs.Fields.{field_count};
-ghost use Rattle.vectors.specs.Sizes.{QuantitiesSized};
+ghost use Rattle.polaris.specs.Sizes.{ElementsSized, FrameSized};
 
 use crate::words::Word;
 use crate::{angles, output};
@@ -31,6 +30,10 @@ pub struct Quantities {
     pub sidereal: u64,
     pub centre: u64,
     pub longitude: u64,
+    ghost frame_sized: { FrameSized frame },
+    ghost sidereal_reduced: { sidereal < turn },
+    ghost centre_reduced: { centre < turn },
+    ghost longitude_reduced: { longitude < turn },
 }
 
 // D of a date.
@@ -68,9 +71,7 @@ pub fn at(out: Stdout, asked: Word, fields: &[i64], edition: i64)
     }
 }
 
-fn quantities_of(epochs: Epochs, edition: i64) -> Quantities
-    ensures { QuantitiesSized result }
-{
+fn quantities_of(epochs: Epochs, edition: i64) -> Quantities {
     let e = epochs.ephemeris;
     let arguments = arguments::arguments_of(e);
     let f = frame::frame_of(&arguments, e);
@@ -125,9 +126,7 @@ fn write_time(out: Stdout, epochs: Epochs) {
 }
 
 // What almanacs print of the Sun: s, Δψ, Δε, the true obliquity, sidereal time, right ascension and declination.
-fn write_sun(out: Stdout, quantities: &Quantities)
-    requires { QuantitiesSized quantities.now }
-{
+fn write_sun(out: Stdout, quantities: &Quantities) {
     let f = quantities.frame;
     output::natural(out, quantities.longitude);
     output::integers(out, &[f.dpsi, difference(f.epsilon, f.epsilon0), f.epsilon]);
@@ -179,9 +178,7 @@ fn parts(out: Stdout, epochs: Epochs, site: Site, body: i64, edition: i64) {
     parts_from(out, &quantities, position, body == 1);
 }
 
-fn parts_from(out: Stdout, quantities: &Quantities, position: Position, is_sun: bool)
-    requires { QuantitiesSized quantities.now }
-{
+fn parts_from(out: Stdout, quantities: &Quantities, position: Position, is_sun: bool) {
     let d = direction_of(quantities, is_sun);
     let sight = horizon::sight(d, quantities.sidereal, position);
     output::sight_begin(out, sight);
@@ -206,7 +203,6 @@ fn write_frame(out: Stdout, quantities: &Quantities) {
 }
 
 fn direction_of(quantities: &Quantities, is_sun: bool) -> Direction
-    requires { QuantitiesSized quantities.now }
     ensures { squared_length result + 2 * growth ≤ reach }
 {
     let f = quantities.frame;
@@ -219,9 +215,7 @@ fn direction_of(quantities: &Quantities, is_sun: bool) -> Direction
 }
 
 // Of Polaris p, right ascension, declination, ζ, z, θ, the catalogue's direction and that before aberration.
-fn write_polaris(out: Stdout, quantities: &Quantities)
-    requires { QuantitiesSized quantities.now }
-{
+fn write_polaris(out: Stdout, quantities: &Quantities) {
     let e = quantities.epochs.ephemeris;
     let p = polaris::tropical_millionths(e);
     let k = polaris::elements_of(p);
@@ -231,7 +225,7 @@ fn write_polaris(out: Stdout, quantities: &Quantities)
 }
 
 fn write_before_aberration(out: Stdout, quantities: &Quantities, k: Elements)
-    requires { QuantitiesSized quantities.now × ElementsSized k }
+    requires { ElementsSized k }
 {
     let d = polaris::true_direction(k, quantities.frame);
     output::integers(out, &d);

@@ -1,2 +1,0 @@
--- What the program's parts hand to each other.
-pub mod Sizes
