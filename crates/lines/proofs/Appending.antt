@@ -17,6 +17,7 @@ append-both {x} {y} {z} {t} {u} a b = record {
   ends = let e = a.ends in let f = b.ends in simp length-append (omega arith);
   holds = b.holds ∙ ap (λ (p : List ℕ). p ++ u) a.holds ∙ append_assoc (written x) t u;
   room = b.room ∙ a.room;
+  same_buffer = b.same_buffer ∙ a.same_buffer;
 }
 
 pub decimal-text-one : (n : ℕ) → n < 10 → decimal_text n ≡ (48 + n) ∷ []

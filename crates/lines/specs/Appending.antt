@@ -15,11 +15,12 @@ capacity o = length o.bytes.now
 abbrev pub written : Output → List ℕ
 written o = take o.len o.bytes.now
 
--- `text` follows what was written before, and nothing else does
+-- `text` follows what was written before, and nothing else does, in the same lent buffer
 pub record Appends (before : Output) (text : List ℕ) (after : Output) : Type 0 where
   pub ends : after.len ≡ before.len + length text
   pub holds : written after ≡ written before ++ text
   pub room : capacity after ≡ capacity before
+  pub same_buffer : after.bytes.ghost_name ≡ before.bytes.ghost_name
 
 -- "140"
 one-hundred-and-forty : decimal_text 140 ≡ 49 ∷ 52 ∷ 48 ∷ []

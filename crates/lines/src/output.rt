@@ -19,6 +19,7 @@ impl<'a> Output<'a> {
     pub fn new(bytes: &'a mut [u8]) -> Output<'a>
         ensures none { result.len ≡ 0 }
         ensures room { capacity result ≡ length bytes.old }
+        ensures same_buffer { result.bytes.ghost_name ≡ bytes.entry.ghost_name }
     {
         Output { bytes, len: 0 }
     }
@@ -34,6 +35,7 @@ impl<'a> Output<'a> {
     pub fn clear(&mut self)
         ensures none { self.new.len ≡ 0 }
         ensures room { capacity self.new ≡ capacity self.old }
+        ensures same_buffer { self.new.bytes.ghost_name ≡ self.old.bytes.ghost_name }
     {
         self.len = 0;
     }

@@ -7,7 +7,6 @@ ghost use Rattle.lines.specs.Appending.{capacity, written, Appends};
 ghost use Rattle.replies.specs.Answers.{reply, next};
 ghost use Rattle.stream.specs.Sizes.{chunk_length, room};
 ghost use Rattle.stream.specs.Feeding.{kept_length, last_reply, Feeds, Reached, Completes};
-ghost use Rattle.stream.specs.declared.State.{State};
 
 use arrayvec::ArrayVec;
 use card::Card;
@@ -84,13 +83,14 @@ impl State {
         }
     }
 
-    // Answers the last line of the input, where it lacks its newline.
-    pub fn finish(&mut self, protocol: Protocol, out: &mut Output<'_>)
+    // Answers the last line of the input, where it lacks its newline. The state stays as it is: after the input's end nobody needs another.
+    pub fn finish(&self, protocol: Protocol, out: &mut Output<'_>)
         requires { out.old.len + room ≤ capacity out.old }
-        ensures { Appends out.old (last_reply protocol self.old.card self.old.kept.items) out.new }
+        ensures { Appends out.old (last_reply protocol self.now.card self.now.kept.items) out.new }
     {
         if !self.kept.is_empty() {
-            self.end_line(protocol, b"", out);
+            let mut card = self.card;
+            replies::reply(protocol, &mut card, &self.kept, out);
         }
     }
 }
@@ -144,13 +144,14 @@ fn run_with<R: Read, W: Write>(
     reader: &mut R,
     writer: &mut W,
     out: &mut Output<'_>,
-)
+) -> State
     requires { chunk_length * room ≤ capacity out.old }
-    ensures { (last : State) × Completes protocol last (written out.new) }
+    ensures { Completes protocol result (written out.new) }
 {
-    let mut state = feed_input(protocol, reader, writer, out);
+    let state = feed_input(protocol, reader, writer, out);
     out.clear();
     state.finish(protocol, out);
+    state
 }
 
 // Runs a program: reads standard input to its end and writes the answers of each chunk as it comes in.
@@ -159,6 +160,6 @@ pub fn run(rt: &(impl Input + Print), protocol: Protocol) {
     let mut out = Output::new(&mut buffer);
     let mut reader = rt.reader();
     let mut writer = io::writer(rt);
-    run_with(protocol, &mut reader, &mut writer, &mut out);
+    let _last = run_with(protocol, &mut reader, &mut writer, &mut out);
     let _ = writer.write_all(out.written());
 }

@@ -4,4 +4,4 @@ use Rattle.stream.proofs.run_with.Goals as goal
 pub returns : goal.returns
 returns g c =
     let last = c.feed_input-state.result in
-    (last, last-round c.args.protocol last _ c.feed_input-state.ensures.reached (rw c.clear.ensures.none at c.finish.ensures.holds))
+    last-round c.args.protocol last _ c.feed_input-state.ensures.reached (rw c.clear.ensures.none at c.finish.ensures.holds)
