@@ -7,11 +7,11 @@ ghost use Rattle.rotation.specs.Sizes.{reach};
 ghost use Rattle.arguments.specs.PrintedArguments.{arguments_of};
 ghost use Rattle.frame.specs.FrameContract.{IsFrame};
 ghost use Rattle.card.specs.Fields.{field_count};
+ghost use Rattle.short_series.specs.Editions.{number_count};
 ghost use Rattle.polaris.specs.Sizes.{ElementsSized, FrameSized};
 
-use crate::words::Word;
 use crate::{angles, output};
-use calendar::Epochs;
+use calendar::{CivilTime, Epochs};
 use epoch::Epoch;
 use fieldbook::{Numbers, Options};
 use frame::Frame;
@@ -53,22 +53,51 @@ pub fn shot(out: Stdout, fields: &[i64], edition: i64)
     output::shot(out, fieldbook::shot(query));
 }
 
-// The fields of an instant alone, whose line has the numbers of fields 1 to 7 and 11: no site, and no body.
-pub fn fields_of(n: &[i64]) -> [i64; card::FIELDS]
-    requires { 8 ≤ length n.now }
+// Answers what is asked of an instant, or why its numbers name none.
+fn at<F: FnOnce(Epochs)>(out: Stdout, time: CivilTime, answer: F)
+    requires { F.IsAlwaysCallable answer }
 {
-    [n[0], n[1], n[2], n[3], n[4], n[5], n[6], 0, 0, 0, n[7]]
-}
-
-// Answers what is asked with the numbers of the fields.
-pub fn at(out: Stdout, asked: Word, fields: &[i64], edition: i64)
-    requires { field_count ≤ length fields.now }
-{
-    let numbers = fieldbook::numbers_of(fields);
-    match calendar::instant_of(numbers.time) {
-        Ok(epochs) => answer_at(out, asked, epochs, numbers, edition),
+    match calendar::instant_of(time) {
+        Ok(epochs) => answer(epochs),
         Err(refusal) => output::refused(out, refusal),
     }
+}
+
+// The two epochs of an instant.
+pub fn time(out: Stdout, numbers: &[i64])
+    requires { number_count ≤ length numbers.now }
+{
+    at(out, short_series::time_of(numbers), |epochs| {
+        output::accepted(out);
+        write_time(out, epochs);
+    });
+}
+
+// What almanacs print of the Sun, by the default edition.
+pub fn sun(out: Stdout, numbers: &[i64])
+    requires { number_count ≤ length numbers.now }
+{
+    at(out, short_series::time_of(numbers), |epochs| {
+        output::accepted(out);
+        write_sun(out, &quantities_of(epochs, fieldbook::DEFAULTS.edition));
+    });
+}
+
+// s by an edition.
+pub fn longitude(out: Stdout, numbers: &[i64], edition: i64)
+    requires { number_count ≤ length numbers.now }
+{
+    at(out, short_series::time_of(numbers), |epochs| {
+        write_longitude(out, epochs, edition);
+    });
+}
+
+// Every step of a shot with plain numbers.
+pub fn steps(out: Stdout, fields: &[i64], edition: i64)
+    requires { field_count ≤ length fields.now }
+{
+    let Numbers { time, site, body } = fieldbook::numbers_of(fields);
+    at(out, time, |epochs| parts(out, epochs, site, body, edition));
 }
 
 fn quantities_of(epochs: Epochs, edition: i64) -> Quantities {
@@ -89,21 +118,6 @@ fn longitude_of(edition: i64, arguments: &[i64; arguments::COUNT], e: Epoch, f: 
     ensures { result < turn }
 {
     sun::apparent_longitude(edition, arguments, e, f.dpsi, sun::ABERRATION)
-}
-
-fn answer_at(out: Stdout, asked: Word, epochs: Epochs, numbers: Numbers, edition: i64) {
-    match asked {
-        Word::Instant => {
-            output::accepted(out);
-            write_time(out, epochs);
-        }
-        Word::Longitude => write_longitude(out, epochs, edition),
-        Word::Sun => {
-            output::accepted(out);
-            write_sun(out, &quantities_of(epochs, edition));
-        }
-        _ => parts(out, epochs, numbers.site, numbers.body, edition),
-    }
 }
 
 // s, where the edition is one.
@@ -162,7 +176,7 @@ fn write_short_way(out: Stdout, a: u64)
     }
 }
 
-// Every step of a shot, in the order of tools/vectors.py.
+// Every step of a shot, in the order of tools/vectors.py. Kept: body and edition are numbers of a line, which are tested here.
 fn parts(out: Stdout, epochs: Epochs, site: Site, body: i64, edition: i64) {
     let position = match site::position_of(site) {
         Ok(position) => position,

@@ -104,11 +104,10 @@ fn answer_fields(out: Stdout, word: Word, numbers: &[i64]) {
     match (word, numbers.len()) {
         (Word::Shot, 11) => instant::shot(out, numbers, default),
         (Word::Shot, 12) => instant::shot(out, numbers, numbers[11]),
-        (Word::Parts, 12) => instant::at(out, word, numbers, numbers[11]),
-        (Word::Longitude, 9) => instant::at(out, word, &instant::fields_of(numbers), numbers[8]),
-        (Word::Instant | Word::Sun, 8) => {
-            instant::at(out, word, &instant::fields_of(numbers), default)
-        }
+        (Word::Parts, 12) => instant::steps(out, numbers, numbers[11]),
+        (Word::Longitude, 9) => instant::longitude(out, numbers, numbers[8]),
+        (Word::Instant, 8) => instant::time(out, numbers),
+        (Word::Sun, 8) => instant::sun(out, numbers),
         _ => output::malformed(out),
     }
 }

@@ -23,6 +23,7 @@ pub enum Word {
     Parts,
     Shot,
     Choice,
+    // Kept: no `Option<Word>`, since a line that asks nothing known is answered by an arm like any other.
     Other,
 }
 
@@ -77,6 +78,7 @@ pub fn rest(line: &[u8]) -> &[u8] {
 }
 
 // The bytes that pairs of hexadecimal digits stand for, as far as out has room; their number.
+// Kept: by index, since what a loop over `iter_mut` leaves of the lent slice is not known to a proof, its length neither.
 pub fn unhex(word: &[u8], out: &mut [u8]) -> usize
     ensures { result ≤ length out.new }
 {
