@@ -78,13 +78,12 @@ pub fn rest(line: &[u8]) -> &[u8] {
 }
 
 // The bytes that pairs of hexadecimal digits stand for, as far as out has room; their number.
-// Kept: by index, since what a loop over `iter_mut` leaves of the lent slice is not known to a proof, its length neither.
 pub fn unhex(word: &[u8], out: &mut [u8]) -> usize
     ensures { result ≤ length out.new }
 {
     let n = out.len().min(word.len() / 2);
-    for i in 0..n {
-        out[i] = hex_digit(word[2 * i]) * 16 + hex_digit(word[2 * i + 1]);
+    for (byte, pair) in out.iter_mut().zip(word.chunks_exact(2)) {
+        *byte = hex_digit(pair[0]) * 16 + hex_digit(pair[1]);
     }
     n
 }
