@@ -120,8 +120,7 @@ struct fieldbook_shot_answer fieldbook_shot(int64_t year, int64_t month, int64_t
    of words. */
 enum { FIELDBOOK_SHOT_NUMBERS = 11, FIELDBOOK_SHOT_WORDS = 5 };
 
-/* Many shots: one after the other as fieldbook_shot answers them, a refusal of its own for each row. A single
-   shot builds the table of the sine, a good third of its work; this call builds it once for all.
+/* Many shots: one after the other as fieldbook_shot answers them, a refusal of its own for each row.
 
    rows                the numbers of the shots, row after row; only read
    rows_count          how many numbers: 11 times the rows

@@ -166,7 +166,7 @@ pub fn shot(numbers: &Numbers, options: Options) -> Result<ShotAngles, Refusal> 
 }
 
 /// Many shots, each with its own angles or refusal, in the order of their numbers, with one set of
-/// options for all. It builds the table of the sine once, where a single shot builds it for itself.
+/// options for all.
 pub fn shots(numbers: &[Numbers], options: Options) -> Vec<Result<ShotAngles, Refusal>> {
     let rows: Vec<i64> = numbers.iter().flat_map(Numbers::fields).collect();
     let mut words = vec![0; 5 * numbers.len()];

@@ -59,6 +59,13 @@ fn index_of(field: i64) -> Result<usize, Refusal>
     Ok(field as usize - 1)
 }
 
+// The number that a field holds, as a number alone: 0 of an empty one, which no answer uses.
+pub fn number_in(field: Field) -> i64
+    ensures { result ≡ number_in field }
+{
+    field.number().unwrap_or(0)
+}
+
 impl Field {
     // The number that a field holds. An empty one holds none.
     pub fn number(self) -> Option<i64>

@@ -88,7 +88,7 @@ fn put_field(words: &mut [i64], place: usize, field: Field)
     ensures { words.new ≡ sets words.old place (field_words field) }
 {
     words[place] = state_number(field);
-    words[place + 1] = field.number().unwrap_or(0);
+    words[place + 1] = card::number_in(field);
 }
 
 // Writes a card into lent words.

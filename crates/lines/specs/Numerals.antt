@@ -1,6 +1,7 @@
 -- RULES.md, "Lines": the numbers of a line, each an optional "-" and 1 to so many digits, one space between. A
 -- line is a list of bytes, without its newline.
-use Rattle.std.specs.Prelude.{◌≡◌, refl, cond, ◌||◌, List, [], ◌∷◌, ◌++◌, ℕ, ◌+◌, ◌-◌, ◌*◌, ltb, eqb, ℤ, pos, neg_ℤ, length, Option, Some, None}
+use Rattle.std.specs.Prelude.{◌≡◌, refl, cond, ◌||◌, List, [], ◌∷◌, ◌++◌, ℕ, ◌+◌, ◌-◌, ◌*◌, ltb, eqb, ℤ, pos, neg_ℤ, length, take, Option, Some, None}
+use Rattle.lines.specs.declared.Row.{Row}
 
 -- ---- a number
 -- the digits behind those that made n, all together
@@ -52,6 +53,10 @@ numbers_behind row most (w ∷ ws) =
 -- the numbers of a line, with one space between; none where it is not of this form
 abbrev pub numbers_of : ℕ → List ℕ → List ℤ
 numbers_of most l = numbers_behind [] most (words l)
+
+-- the numbers that a row holds
+abbrev pub listed : Row → List ℤ
+listed r = take r.count r.numbers
 
 -- "5 -50"
 two-numbers : numbers_of 9 (53 ∷ 32 ∷ 45 ∷ 53 ∷ 48 ∷ []) ≡ pos 5 ∷ neg_ℤ (pos 50) ∷ []

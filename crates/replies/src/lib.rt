@@ -108,7 +108,7 @@ pub fn session_command(line: &[u8]) -> Command
     match line {
         [b'S'] => Command::Shoot,
         [letter, b' ', words @ ..] => {
-            letter_command(*letter, &lines::numbers_of(words, SESSION_DIGITS))
+            letter_command(*letter, lines::numbers_of(words, SESSION_DIGITS).as_slice())
         }
         _ => Command::Malformed,
     }
@@ -286,7 +286,11 @@ pub fn batch_reply(question: Question, line: &[u8], out: &mut Output<'_>)
     ensures appends { Appends out.old (batch_reply question line.now) out.new }
     ensures upper_bound { out.new.len ≤ out.old.len + suc longest }
 {
-    append_batch(out, question, &lines::numbers_of(line, BATCH_DIGITS));
+    append_batch(
+        out,
+        question,
+        lines::numbers_of(line, BATCH_DIGITS).as_slice(),
+    );
     out.append(b"\n");
 }
 

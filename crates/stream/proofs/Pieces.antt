@@ -9,7 +9,7 @@ use lib.ListN.{length, take, drop}
 use Rattle.card.specs.declared.Card.{Card}
 use Rattle.replies.specs.Answers.{reply, next}
 use Rattle.replies.specs.declared.Protocol.{Protocol}
-use Rattle.stream.specs.Feeding.{Progress, behind, progress, kept_length, progress_from, last_reply, Feeds}
+use Rattle.stream.specs.Feeding.{Progress, behind, progress, kept_length, held, progress_from, last_reply, Feeds}
 use Rattle.stream.specs.declared.State.{State}
 use Rattle.lines.specs.Appending.{Appends}
 use Rattle.lines.specs.declared.output.Output.{Output}
@@ -57,18 +57,18 @@ module _ (p : Protocol) (c : Card) where
 -- what the loop over a chunk has written, and what it has yet to read, make what the whole chunk makes
 module _ (p : Protocol) (first s : State) (chunk l o : List ℕ) (e : behind o (progress_from p s l) ≡ progress_from p first chunk) where
   -- one line more
-  pub one_line : (t : State) → index_of 10 l < length l → t.card ≡ next p s.card (s.kept.items ++ take (index_of 10 l) l) → t.kept.items ≡ []
-      → behind (o ++ reply p s.card (s.kept.items ++ take (index_of 10 l) l)) (progress_from p t (drop (suc (index_of 10 l)) l)) ≡ progress_from p first chunk
+  pub one_line : (t : State) → index_of 10 l < length l → t.card ≡ next p s.card (held s.kept ++ take (index_of 10 l) l) → held t.kept ≡ []
+      → behind (o ++ reply p s.card (held s.kept ++ take (index_of 10 l) l)) (progress_from p t (drop (suc (index_of 10 l)) l)) ≡ progress_from p first chunk
   one_line t h f g =
       rw (f, g)
-      (behind-both o (reply p s.card (s.kept.items ++ take (index_of 10 l) l)) _
-      ∙ ap (behind o) (sym (line-ended p s.card s.kept.items l h)) ∙ e)
+      (behind-both o (reply p s.card (held s.kept ++ take (index_of 10 l) l)) _
+      ∙ ap (behind o) (sym (line-ended p s.card (held s.kept) l h)) ∙ e)
 
   -- the rest is kept
-  pub the_rest : (t : State) (x y : Output) → Appends x o y → length l ≤ index_of 10 l → t.card ≡ s.card → t.kept.items ≡ take kept_length (s.kept.items ++ l)
+  pub the_rest : (t : State) (x y : Output) → Appends x o y → length l ≤ index_of 10 l → t.card ≡ s.card → held t.kept ≡ take kept_length (held s.kept ++ l)
       → Feeds p first chunk t x y
   the_rest t x y a h f g =
-      let r = sym (ap (behind o) (rest-left p s.card s.kept.items l h)) ∙ e in
+      let r = sym (ap (behind o) (rest-left p s.card (held s.kept) l h)) ∙ e in
       record {
         wrote = subst (λ w. Appends x w y) (sym (append-nil o) ∙ ap (λ (q : Progress). q.output) r) a;
         keeps = record { card = f ∙ ap (λ (q : Progress). q.card) r; line = g ∙ ap (λ (q : Progress). take kept_length q.line) r };

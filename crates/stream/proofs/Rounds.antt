@@ -6,14 +6,13 @@ use lib.ListN.{take}
 use Rattle.card.specs.Fields.{fresh_card}
 use Rattle.card.specs.declared.Card.{Card}
 use Rattle.replies.specs.declared.Protocol.{Protocol}
-use Rattle.stream.specs.Feeding.{cut, kept_length, progress, progress_all, progress_from, from_start, last_reply, Keeps, Feeds, Reached, Completes}
+use Rattle.stream.specs.Feeding.{cut, kept_length, progress, progress_all, progress_from, from_start, held, last_reply, Keeps, FeedsAnew, Reached, Completes}
 use Rattle.stream.specs.declared.State.{State}
-use Rattle.lines.specs.declared.output.Output.{Output}
 use Rattle.stream.proofs.AnyChunks.{any-chunks}
 
 module _ (p : Protocol) (s : State) where
   -- no chunk yet
-  pub first_round : s.card ≡ fresh_card → s.kept.items ≡ [] → Reached p s
+  pub first_round : s.card ≡ fresh_card → held s.kept ≡ [] → Reached p s
   unfolding progress_all
   first_round e f = record { chunks = []; keeps = record { card = e; line = f } }
 
@@ -26,11 +25,11 @@ module _ (p : Protocol) (s : State) where
       let i = keeps-more (progress p c g x).card (take kept_length (progress p c g x).line) chunks l t (record { card = k.card; line = k.line }) h in record { card = i.card; line = i.line }
 
   -- a round more
-  pub one-round : (l : List ℕ) (t : State) (x y : Output) → Reached p s → Feeds p s l t x y → Reached p t
-  one-round l t x y r f = record { chunks = r.chunks ++ (l ∷ []); keeps = keeps-more fresh_card [] r.chunks l t r.keeps f.keeps }
+  pub one-round : (l : List ℕ) (t : State) (o : List ℕ) → Reached p s → FeedsAnew p s l t o → Reached p t
+  one-round l t o r f = record { chunks = r.chunks ++ (l ∷ []); keeps = keeps-more fresh_card [] r.chunks l t r.keeps f.keeps }
 
   -- the answer to a last line
-  pub last-round : (o : List ℕ) → Reached p s → o ≡ last_reply p s.card s.kept.items → Completes p s o
+  pub last-round : (o : List ℕ) → Reached p s → o ≡ last_reply p s.card (held s.kept) → Completes p s o
   last-round o r e =
       let k = r.keeps in
       record { reached = r; whole = ap (λ (l : List ℕ). (from_start p r.chunks).output ++ l) (rw (k.card, k.line) at e) ∙ any-chunks p r.chunks }

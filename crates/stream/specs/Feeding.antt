@@ -10,6 +10,7 @@ use Rattle.replies.specs.Answers.{reply, next}
 use Rattle.replies.specs.declared.Protocol.{Protocol}
 use Rattle.stream.specs.Run.{run}
 use Rattle.stream.specs.declared.State.{State}
+use Rattle.stream.specs.declared.Kept.{Kept}
 
 -- what a chunk brings about: the output, the card afterwards, and the unfinished line behind the last newline
 pub record Progress : Type 0 where
@@ -40,18 +41,27 @@ kept_length = suc longest_line
 abbrev pub cut : Progress → Progress
 cut r = record { output = r.output; card = r.card; line = take kept_length r.line }
 
+-- the bytes that are kept
+abbrev pub held : Kept → List ℕ
+held k = take k.len k.bytes
+
 -- from a state
 abbrev pub progress_from : Protocol → State → List ℕ → Progress
-progress_from p s chunk = progress p s.card s.kept.items chunk
+progress_from p s chunk = progress p s.card (held s.kept) chunk
 
 -- a state that holds what was brought about
 pub record Keeps (s : State) (r : Progress) : Type 0 where
   pub card : s.card ≡ r.card
-  pub line : s.kept.items ≡ r.line
+  pub line : held s.kept ≡ r.line
 
 -- what is written, behind what was before, and the state that is kept
 pub record Feeds (p : Protocol) (before : State) (chunk : List ℕ) (after : State) (out_before out_after : Output) : Type 0 where
   pub wrote : Appends out_before (progress_from p before chunk).output out_after
+  pub keeps : Keeps after (cut (progress_from p before chunk))
+
+-- the same in a buffer that is begun anew: what is written there is the answers and nothing else
+pub record FeedsAnew (p : Protocol) (before : State) (chunk : List ℕ) (after : State) (output : List ℕ) : Type 0 where
+  pub wrote : output ≡ (progress_from p before chunk).output
   pub keeps : Keeps after (cut (progress_from p before chunk))
 
 -- chunks, one after the other, where `begun` is kept of an unfinished line already

@@ -6,9 +6,8 @@ ghost use Rattle.card.specs.Fields.{fresh_card};
 ghost use Rattle.lines.specs.Appending.{capacity, written, Appends};
 ghost use Rattle.replies.specs.Answers.{reply, next};
 ghost use Rattle.stream.specs.Sizes.{chunk_length, room};
-ghost use Rattle.stream.specs.Feeding.{kept_length, last_reply, Feeds, Reached, Completes};
+ghost use Rattle.stream.specs.Feeding.{kept_length, held, last_reply, Feeds, FeedsAnew, Reached, Completes};
 
-use arrayvec::ArrayVec;
 use card::Card;
 use lines::Output;
 use replies::Protocol;
@@ -23,47 +22,74 @@ const CHUNK: usize = 4_096;
 
 const OUTPUT: usize = 438_272;
 
+// The unfinished line: the first `len` bytes of the array. Kept: no `ArrayVec`, since a state is `Copy`.
+#[derive(Clone, Copy)]
+pub struct Kept {
+    pub bytes: [u8; KEPT],
+    pub len: usize,
+}
+
+impl Kept {
+    // Nothing is kept.
+    fn new() -> Kept
+        ensures { held result ≡ [] }
+    {
+        Kept {
+            bytes: [0; KEPT],
+            len: 0,
+        }
+    }
+
+    // The bytes that are kept.
+    fn as_slice(&self) -> &[u8]
+        ensures { result.now ≡ held self.now }
+    {
+        &self.bytes[..self.len.min(KEPT)]
+    }
+
+    // Keeps a piece more, as much of it as there is room for.
+    fn keep(&mut self, piece: &[u8])
+        ensures { held self.new ≡ take kept_length (held self.old ++ piece.now) }
+    {
+        let len = self.len.min(KEPT);
+        let end = len + piece.len().min(KEPT - len);
+        self.bytes[len..end].copy_from_slice(&piece[..end - len]);
+        self.len = end;
+    }
+}
+
 // What a program holds between two chunks: the card, and what is kept of the unfinished line.
-#[derive(Drop)]
+#[derive(Clone, Copy)]
 pub struct State {
     pub card: Card,
-    pub kept: ArrayVec<u8, KEPT>,
+    pub kept: Kept,
 }
 
 impl State {
     // A fresh card, and no line begun.
     pub fn start() -> State
-        ensures { (result.card ≡ fresh_card) × (result.kept.items ≡ []) }
+        ensures { (result.card ≡ fresh_card) × (held result.kept ≡ []) }
     {
         State {
             card: Card::fresh(),
-            kept: ArrayVec::new(),
+            kept: Kept::new(),
         }
-    }
-
-    // Keeps a piece more of the unfinished line, as much of it as there is room for.
-    fn keep(&mut self, piece: &[u8])
-        ensures card_value { self.new.card ≡ self.old.card }
-        ensures kept_value { self.new.kept.items ≡ take kept_length (self.old.kept.items ++ piece.now) }
-    {
-        let more = piece.len().min(self.kept.remaining_capacity());
-        self.kept.try_extend_from_slice(&piece[..more]).unwrap();
     }
 
     // Answers the line that a piece ends.
     fn end_line(&mut self, protocol: Protocol, piece: &[u8], out: &mut Output<'_>)
         requires { out.old.len + room ≤ capacity out.old }
-        ensures card_value { self.new.card ≡ next protocol self.old.card (self.old.kept.items ++ piece.now) }
-        ensures kept_value { self.new.kept.items ≡ [] }
-        ensures appends { Appends out.old (reply protocol self.old.card (self.old.kept.items ++ piece.now)) out.new }
+        ensures card_value { self.new.card ≡ next protocol self.old.card (held self.old.kept ++ piece.now) }
+        ensures kept_value { held self.new.kept ≡ [] }
+        ensures appends { Appends out.old (reply protocol self.old.card (held self.old.kept ++ piece.now)) out.new }
         ensures end_bound { out.new.len ≤ out.old.len + room }
     {
-        if self.kept.is_empty() {
+        if self.kept.as_slice().is_empty() {
             replies::reply(protocol, &mut self.card, piece, out);
         } else {
-            self.keep(piece);
-            replies::reply(protocol, &mut self.card, &self.kept, out);
-            self.kept.clear();
+            self.kept.keep(piece);
+            replies::reply(protocol, &mut self.card, self.kept.as_slice(), out);
+            self.kept.len = 0;
         }
     }
 
@@ -76,7 +102,7 @@ impl State {
         loop {
             let (piece, behind) = rest.split_at(lines::find(rest, b'\n'));
             let Some((_newline, next)) = behind.split_first() else {
-                return self.keep(piece);
+                return self.kept.keep(piece);
             };
             self.end_line(protocol, piece, out);
             rest = next;
@@ -86,17 +112,17 @@ impl State {
     // Answers the last line of the input, where it lacks its newline. The state stays as it is: after the input's end nobody needs another.
     pub fn finish(&self, protocol: Protocol, out: &mut Output<'_>)
         requires { out.old.len + room ≤ capacity out.old }
-        ensures { Appends out.old (last_reply protocol self.now.card self.now.kept.items) out.new }
+        ensures { Appends out.old (last_reply protocol self.now.card (held self.now.kept)) out.new }
     {
-        if !self.kept.is_empty() {
+        if !self.kept.as_slice().is_empty() {
             let mut card = self.card;
-            replies::reply(protocol, &mut card, &self.kept, out);
+            replies::reply(protocol, &mut card, self.kept.as_slice(), out);
         }
     }
 }
 
-// Reads once, answers what came, and says how many bytes came: none where the input has ended or cannot be read. No contract can say which bytes the
-// system reads: here they are what the call left at the front of `input`.
+// Reads once, answers what came in a buffer that is begun anew, and says how many bytes came: none where the input has ended or cannot be read.
+// No contract can say which bytes the system reads: here they are what the call left at the front of `input`.
 fn feed_some<R: Read>(
     state: &mut State,
     protocol: Protocol,
@@ -104,10 +130,12 @@ fn feed_some<R: Read>(
     input: &mut [u8],
     out: &mut Output<'_>,
 ) -> usize
-    requires { out.old.len + length input.old * room ≤ capacity out.old }
-    ensures feeds { Feeds protocol state.old (take result input.new) state.new out.old out.new }
+    requires { length input.old * room ≤ capacity out.old }
+    ensures feeds { FeedsAnew protocol state.old (take result input.new) state.new (written out.new) }
     ensures came_in_bounds { result ≤ length input.old }
+    ensures room_after { capacity out.new ≡ capacity out.old }
 {
+    out.clear(); // what the round before made is written
     let came = reader.read(input).unwrap_or(0);
     state.feed(protocol, &input[..came], out);
     came
@@ -128,7 +156,6 @@ fn feed_input<R: Read, W: Write>(
     let mut input = [0u8; CHUNK];
     let mut state = State::start();
     for _round in 0..u64::MAX {
-        out.clear();
         let came = feed_some(&mut state, protocol, reader, &mut input, out);
         let written = writer.write_all(out.written()).is_ok();
         if came == 0 || !written {

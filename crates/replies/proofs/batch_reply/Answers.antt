@@ -4,4 +4,4 @@ use Rattle.replies.proofs.batch_reply.Goals as goal
 
 pub returns-clause-appends : goal.returns-clause-appends
 unfolding batch_reply
-returns-clause-appends c = rw (← c.numbers_of.ensures.numbers, ← c.deref.ensures.0) (append-both c.append_batch.ensures.appends c.append.ensures)
+returns-clause-appends c = rw (← c.numbers_of.ensures.numbers, ← c.as_slice.ensures) (append-both c.append_batch.ensures.appends c.append.ensures)

@@ -14,12 +14,12 @@ loop-round-preserved g c =
     let i = c.loop-round.invariant in
     let r = c.feed_some-came in
     record {
-      room = r.ensures.feeds.wrote.room ∙ c.clear.ensures.room ∙ i.room;
+      room = r.ensures.room_after ∙ i.room;
       input = r.auto.input ∙ i.input;
-      reached = one-round c.args.protocol c.loop-round.state _ r.new.state _ _ i.reached r.ensures.feeds;
+      reached = one-round c.args.protocol c.loop-round.state _ r.new.state _ i.reached r.ensures.feeds;
     }
 
 pub returns-then-came-eq0-clause-reached : goal.returns-then-came-eq0-clause-reached
 returns-then-came-eq0-clause-reached g c =
     let r = c.feed_some-came in
-    one-round c.args.protocol c.loop-round.state _ r.new.state _ _ c.loop-round.invariant.reached r.ensures.feeds
+    one-round c.args.protocol c.loop-round.state _ r.new.state _ c.loop-round.invariant.reached r.ensures.feeds

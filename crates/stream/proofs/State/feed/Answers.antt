@@ -1,9 +1,10 @@
-use Rattle.std.proofs.Common.{◌≡◌, ◌++◌, suc, length, take, drop, sym, ap, ◌∙◌, add-one, arith}
+use Rattle.std.proofs.Common.{◌≡◌, refl, ◌++◌, suc, length, take, drop, sym, ap, ◌∙◌, add-one, arith}
 use Rattle.std.proofs.Math.Seq.{take_all}
 use Rattle.lines.specs.Bytes.{index_of}
 use Rattle.lines.proofs.Appending.{append-both}
 use Rattle.lines.proofs.Words as Words
 use Rattle.replies.specs.Answers.{reply}
+use Rattle.stream.specs.Feeding.{held}
 use Rattle.stream.proofs.Pieces.{one_line, the_rest}
 use Rattle.stream.proofs.State.feed.Goals as goal
 
@@ -14,8 +15,8 @@ returns-in_default c =
     let l = c.loop-newline.rest.now in
     let all : c.find.result ≡ length l = omega (arith, c.split_at.ensures.back_len, c.in_default.ensures.cases) in
     let piece = c.split_at.ensures.front ∙ take_all c.find.result l (omega arith) in
-    the_rest c.args.protocol c.args.self.now s c.args.chunk.now l m.0 m.2 c.keep.new.self c.args.out.now c.loop-newline.out m.1 (omega (arith, c.find.ensures.0))
-    c.keep.ensures.card_value (rw piece at c.keep.ensures.kept_value)
+    the_rest c.args.protocol c.args.self.now s c.args.chunk.now l m.0 m.2 (record { card = s.card; kept = c.keep.new.self }) c.args.out.now c.loop-newline.out m.1 (omega (arith, c.find.ensures.0))
+    refl (rw piece at c.keep.ensures)
 
 pub loop-newline-preserved : goal.loop-newline-preserved
 loop-newline-preserved c =
@@ -32,7 +33,7 @@ loop-newline-preserved c =
     record {
       room = omega (arith, i.room, r.end_bound, r.appends.room, q.1, b.back_len);
       made = (
-        i.made.0 ++ reply c.args.protocol s.card (s.kept.items ++ take (index_of 10 l) l),
+        i.made.0 ++ reply c.args.protocol s.card (held s.kept ++ take (index_of 10 l) l),
         append-both i.made.1 appends,
         rw next
             (one_line c.args.protocol c.args.self.now s c.args.chunk.now l i.made.0 i.made.2 c.end_line.new.self (omega (arith, q.1, b.back_len, c.find.ensures.0)) card r.kept_value),
