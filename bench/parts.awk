@@ -6,7 +6,8 @@
 #        lists: how many series a shot sums
 #
 # How each is found, and when not:
-#   angles      calls of vector_angle::angle, three a shot. Another number of calls means that the compiler inlined some: not found
+#   angles      calls of vector_angle::angle, three a shot, or where that is inlined of the search below it, one for each angle. Another
+#               number of calls means that the compiler inlined some: not found
 #   sums        calls of the sums of `series` from outside that crate, one for each list, else not found. What is inlined into a sum
 #               counts with it, the sines above all
 #   arguments   calls of arguments::arguments_of, one a shot; not found where it is inlined. The full edition's four more stand
@@ -32,7 +33,7 @@ FNR == 1 { sign = NR == 1 ? -1 : 1 }
     getline
     cost = sign * $3
     if (callee == shot) enter("shot", number, cost)
-    if (callee == "vector_angle::angle") enter("angles", number, cost)
+    if (callee ~ /^vector_angle::(angle|Vector::quadrant_angle)$/ && caller !~ /^vector_angle::/) enter("angles", number, cost)
     if (callee ~ /^series::.*sum$/ && caller !~ /^series::/) enter("sums", number, cost)
     if (callee == "arguments::arguments_of") enter("arguments", number, cost)
 }
