@@ -162,10 +162,10 @@ impl Card {
         ensures buf_after { buf.new ≡ buffer_after self.old field buf.old place }
         ensures field_bound { nat_abs (number_in (field_of self.old field)) < 2 ^ 64 }
     {
-        let i = index_of(field)?;
-        let number = self.fields[i].number().ok_or(Refusal::EmptyField)?;
+        let at = index_of(field)?;
+        let number = self.fields[at].number().ok_or(Refusal::EmptyField)?;
         let length = digits::write_at(buf, place, number).ok_or(Refusal::NoRoom)?;
-        self.fields[i] = self.fields[i].read_out();
+        self.fields[at] = self.fields[at].read_out();
         Ok(length)
     }
 
