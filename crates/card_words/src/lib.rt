@@ -65,8 +65,8 @@ pub fn from_words(words: &[i64]) -> Option<Card>
     if words.len() != WORDS {
         return None;
     }
-    let fields = fields_from(words)?;
     let latest = latest_from(words[LATEST], words[LATEST + 1], words[LATEST + 2])?;
+    let fields = fields_from(words)?;
     Some(Card::from_parts(fields, latest))
 }
 
