@@ -58,16 +58,30 @@ fn fields_from(words: &[i64]) -> Option<[Field; FIELDS]>
     Some(fields)
 }
 
+// Makes of lent words the card that they are, if they are one. It is made in its place: a card that is handed back is copied, by a function that an
+// archive for C would need from outside.
+pub fn restore(words: &[i64], restored: &mut Option<Card>)
+    ensures { restored.new ≡ restored_from words.now }
+{
+    *restored = None;
+    if words.len() != WORDS {
+        return;
+    }
+    let Some(latest) = latest_from(words[LATEST], words[LATEST + 1], words[LATEST + 2]) else {
+        return;
+    };
+    if let Some(fields) = fields_from(words) {
+        *restored = Some(Card::from_parts(fields, latest));
+    }
+}
+
 // The card that lent words are, if they are one.
 pub fn from_words(words: &[i64]) -> Option<Card>
     ensures { result ≡ restored_from words.now }
 {
-    if words.len() != WORDS {
-        return None;
-    }
-    let latest = latest_from(words[LATEST], words[LATEST + 1], words[LATEST + 2])?;
-    let fields = fields_from(words)?;
-    Some(Card::from_parts(fields, latest))
+    let mut restored = None;
+    restore(words, &mut restored);
+    restored
 }
 
 // The number of a field's state. Kept: no `From<Field>`, which crate `card` alone could give, and a number of a state is the words' business.

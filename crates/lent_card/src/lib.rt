@@ -37,11 +37,13 @@ fn on_words<F: FnOnce(&mut Card) -> Result<(), Refusal>>(words: &mut [i64], call
     requires { F.IsAlwaysCallable call }
     ensures { CalledOn (λ c r d. FnOnceReturnsAtMut F.FnOnce call c r d) words.old (words_values result words.new) }
 {
-    let Some(mut card) = card_words::from_words(words) else {
+    let mut restored = None;
+    card_words::restore(words, &mut restored);
+    let Some(card) = &mut restored else {
         return NO_CARD;
     };
-    let answer = call(&mut card);
-    card_words::to_words(&card, words);
+    let answer = call(card);
+    card_words::to_words(card, words);
     number_of(answer)
 }
 
@@ -82,14 +84,16 @@ pub fn read(words: &mut [i64], field: i64, buffer: &mut [u8], place: usize) -> R
     ensures words_after { read_words_values result words.new ≡ read_words words.old field buffer.old place }
     ensures buffer_after { buffer.new ≡ buffer_words words.old field buffer.old place }
 {
-    let Some(mut card) = card_words::from_words(words) else {
+    let mut restored = None;
+    card_words::restore(words, &mut restored);
+    let Some(card) = &mut restored else {
         return ReadAnswer {
             refusal: NO_CARD,
             length: 0,
         };
     };
     let reading = card.read(field, buffer, place);
-    card_words::to_words(&card, words);
+    card_words::to_words(card, words);
     match reading {
         Ok(length) => ReadAnswer {
             refusal: 0,
